@@ -1,0 +1,58 @@
+-- Laws of rows, places and lists of tests. Assumes nothing.
+use mathlib.Core.Path.{_≡_, refl, sym, ap, ap₂, _∙_, subst}
+use mathlib.Core.Logic.{_⊎_, inl, inr}
+use mathlib.Core.Bool.{Bool, true, false, not, _&&_, _||_, cond}
+use mathlib.Core.List.{List, [], _∷_}
+use Prim.Native.Nat.{ℕ, zero, suc, _+_, _≤_, _<_, zero-le}
+use native.Mathlib.Nat.{le-refl, not-suc-le-zero, le-of-suc-le-suc, add-zero}
+use native.Mathlib.Omega.{arith}
+use lib.Dec.{T, eqb, eqb-refl}
+use lib.ListN.{length, getD}
+use Rattle.sets.proofs.Tests.{of-true, and-l, and-r, and-i, or-e, or-l, or-r}
+use Rattle.meaning.specs.Lists.{rowFrom, isIn, allOf, firstOf}
+
+-- the tests of a list all pass: a product, one part for each
+abbrev pub Holds : List Bool → Type 0
+Holds [] = Unit {0}
+Holds (b ∷ bs) = T b × Holds bs
+
+pub allOf-e : (bs : List Bool) → T (allOf bs) → Holds bs
+unfolding allOf
+allOf-e [] h = tt
+allOf-e (b ∷ bs) h = (and-l b (allOf bs) h, allOf-e bs (and-r b (allOf bs) h))
+
+pub allOf-i : (bs : List Bool) → Holds bs → T (allOf bs)
+unfolding allOf
+allOf-i [] h = tt
+allOf-i (b ∷ bs) h = and-i b (allOf bs) (h .0) (allOf-i bs (h .1))
+
+-- none of the tests of a list applies
+abbrev pub Off : List Bool → Type 0
+Off [] = Unit {0}
+Off (b ∷ bs) = (b ≡ false) × Off bs
+
+pub firstOf-off : (i : ℕ) (bs : List Bool) → firstOf (suc i) bs ≡ 0 → Off bs
+unfolding firstOf
+firstOf-off i [] h = tt
+firstOf-off i (b ∷ bs) h = go b refl h (firstOf-off (suc i) bs)
+  where
+    go : (c : Bool) → b ≡ c → cond c (suc i) (firstOf (suc (suc i)) bs) ≡ 0 → (firstOf (suc (suc i)) bs ≡ 0 → Off bs) → (b ≡ false) × Off bs
+    go true e k ih = absurd (omega arith)
+    go false e k ih = (e, ih k)
+
+-- place j of a row
+pub rowFrom-at : {A : Type 0} (f : ℕ → A) (a : A) (i w j : ℕ) → j < w → getD (rowFrom i w f) j a ≡ f (i + j)
+unfolding rowFrom
+rowFrom-at f a i zero j l = absurd (not-suc-le-zero l)
+rowFrom-at f a i (suc w) zero l = ap f (sym (add-zero i))
+rowFrom-at f a i (suc w) (suc j) l = rowFrom-at f a (suc i) w j (le-of-suc-le-suc l) ∙ ap f (omega arith)
+
+pub rowFrom-ext : {A : Type 0} (f g : ℕ → A) (i w : ℕ) → ((u : ℕ) → i ≤ u → u < i + w → f u ≡ g u) → rowFrom i w f ≡ rowFrom i w g
+unfolding rowFrom
+rowFrom-ext f g i zero h = refl
+rowFrom-ext {A} f g i (suc w) h = ap₂ (λ (x : A) (l : List A). x ∷ l) (h i (le-refl i) (omega arith)) (rowFrom-ext f g (suc i) w (λ u a b. h u (omega arith) (omega arith)))
+
+pub rowFrom-length : {A : Type 0} (f : ℕ → A) (i w : ℕ) → length (rowFrom i w f) ≡ w
+unfolding rowFrom
+rowFrom-length f i zero = refl
+rowFrom-length f i (suc w) = ap suc (rowFrom-length f (suc i) w)

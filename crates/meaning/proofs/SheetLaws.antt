@@ -1,0 +1,88 @@
+-- What a sheet that is refused by none of 1 to 6 satisfies. Assumes nothing.
+use mathlib.Core.Path.{_≡_, refl, sym, ap, _∙_, subst}
+use mathlib.Core.Logic.{_⊎_, inl, inr}
+use mathlib.Core.Bool.{Bool, true, false, not, _&&_, _||_, cond}
+use mathlib.Core.List.{List, [], _∷_}
+use Prim.Native.Nat.{ℕ, zero, suc, _+_, _≤_, _<_, zero-le}
+use native.Mathlib.Nat.{le-refl, le-trans, le-of-eq, lt-of-le-of-lt}
+use native.Mathlib.Omega.{arith}
+use lib.Dec.{T, eqb, leb, ltb, eqb→eq, eqb-refl, ltb→lt, leb→le, T-not}
+use lib.Arith.{lt-of-le-ne}
+use lib.ListN.{length}
+use borrow.Author.Tests.{eqb-true, eqb-false, not-false}
+use Rattle.sets.specs.Sets.{some, every}
+use Rattle.sets.proofs.Tests.{of-true, and-l, and-r, or-e}
+use Rattle.sets.proofs.Facts.{every-e}
+use Rattle.meaning.specs.Sheet.{nOf, tOf, kind, parent, source, target, endBefore, termCount, containsIn, contains, strictlyContains}
+use Rattle.meaning.specs.Check.{headOk, modeOk, modesOk, pairOk, pairsOk, endOk, endsOk, termOk, termsOk, distinctOk, sheetRefusal}
+use Rattle.meaning.proofs.ListLaws.{Holds, allOf-e, Off, firstOf-off}
+
+not-off : (b : Bool) → not b ≡ false → T b
+not-off b e = of-true (not-false b e)
+
+-- the sheet past 1 to 6
+pub record Sound (s : List ℕ) : Type 0 where
+  pub head : T (headOk s)
+  pub modes : (m : ℕ) → m < nOf s → T (modeOk s m)
+  pub pairs : (t : ℕ) → t < tOf s → T (pairOk s t)
+  pub whole : endBefore s (tOf s) ≡ length s
+  pub ends : (t : ℕ) → t < tOf s → T (endOk s t)
+  pub terms : (t : ℕ) → t < tOf s → (j : ℕ) → j < termCount s t → T (termOk s t j)
+
+pub sound : (s : List ℕ) → sheetRefusal s ≡ 0 → Sound s
+unfolding sheetRefusal modesOk pairsOk endsOk termsOk
+sound s h =
+    let o = firstOf-off 0 (not (headOk s) ∷ not (modesOk s) ∷ not (pairsOk s) ∷ not (endsOk s) ∷ not (termsOk s) ∷ not (distinctOk s) ∷ []) h in
+    let pairs = not-off (pairsOk s) (o .1 .1 .0) in
+    record {
+      head = not-off (headOk s) (o .0);
+      modes = every-e (nOf s) (modeOk s) (not-off (modesOk s) (o .1 .0));
+      pairs = every-e (tOf s) (pairOk s) (and-l (every (tOf s) (pairOk s)) (eqb (endBefore s (tOf s)) (length s)) pairs);
+      whole = eqb→eq (endBefore s (tOf s)) (length s) (and-r (every (tOf s) (pairOk s)) (eqb (endBefore s (tOf s)) (length s)) pairs);
+      ends = every-e (tOf s) (endOk s) (not-off (endsOk s) (o .1 .1 .1 .0));
+      terms = λ t l. every-e (termCount s t) (termOk s t) (every-e (tOf s) (λ u. every (termCount s u) (termOk s u)) (not-off (termsOk s) (o .1 .1 .1 .1 .0)) t l);
+    }
+
+module _ (s : List ℕ) (h : Sound s) where
+  -- 1 to 32 modes, at most 64 transitions
+  pub n-pos : 0 < nOf s
+  unfolding headOk
+  n-pos = leb→le 1 (nOf s) (allOf-e _ (h .head) .1 .0)
+
+  pub n-le : nOf s ≤ 32
+  unfolding headOk
+  n-le = leb→le (nOf s) 32 (allOf-e _ (h .head) .1 .1 .0)
+
+  pub t-le : tOf s ≤ 64
+  unfolding headOk
+  t-le = leb→le (tOf s) 64 (allOf-e _ (h .head) .1 .1 .1 .1 .0)
+
+  -- a mode's parent has a lower number; the root's is the root
+  pub parent-le : (m : ℕ) → m < nOf s → parent s m ≤ m
+  unfolding modeOk
+  parent-le m l = go (eqb m 0) refl (allOf-e _ (h .modes m l) .1 .0)
+    where
+      go : (b : Bool) → eqb m 0 ≡ b → T (cond b (eqb (parent s m) 0) (ltb (parent s m) m && not (eqb (kind s (parent s m)) 0))) → parent s m ≤ m
+      go true e k = le-trans (le-of-eq (eqb→eq (parent s m) 0 k)) zero-le
+      go false e k = omega (arith, ltb→lt (parent s m) m (and-l (ltb (parent s m) m) (not (eqb (kind s (parent s m)) 0)) k))
+
+  -- a mode that contains m has no higher number
+  pub containsIn-le : (f a m : ℕ) → m < nOf s → T (containsIn s f a m) → a ≤ m
+  unfolding containsIn
+  containsIn-le zero a m l k = le-of-eq (eqb→eq a m k)
+  containsIn-le (suc f) a m l k = go (or-e (eqb a m) (containsIn s f a (parent s m)) k) (containsIn-le f a (parent s m) (lt-of-le-of-lt (parent-le m l) l))
+    where
+      go : T (eqb a m) ⊎ T (containsIn s f a (parent s m)) → (T (containsIn s f a (parent s m)) → a ≤ parent s m) → a ≤ m
+      go (inl e) ih = le-of-eq (eqb→eq a m e)
+      go (inr c) ih = le-trans (ih c) (parent-le m l)
+
+  pub strictly-lt : (a m : ℕ) → m < nOf s → T (strictlyContains s a m) → a < m
+  unfolding strictlyContains contains
+  strictly-lt a m l k =
+      let ne : a ≡ m → ⊥ = λ e. T-not (eqb a m) (and-l (not (eqb a m)) (contains s a m) k) (subst (λ (x : ℕ). T (eqb a x)) e (eqb-refl a)) in
+      lt-of-le-ne (containsIn-le m a m l (and-r (not (eqb a m)) (contains s a m) k)) ne
+
+  -- a transition's ends are modes
+  pub source-lt : (t : ℕ) → t < tOf s → source s t < nOf s
+  unfolding endOk
+  source-lt t l = ltb→lt (source s t) (nOf s) (allOf-e _ (h .ends t l) .0)

@@ -1,0 +1,70 @@
+-- What is promised of the definitions besides the whole-list theorem, each as one statement. A sheet here is any that passes
+-- 1 to 6. Assumes nothing.
+use mathlib.Core.Path.{_≡_}
+use mathlib.Core.Logic.{_⊎_}
+use mathlib.Core.Bool.{Bool, true, false}
+use mathlib.Core.List.{List, []}
+use Prim.Native.Nat.{ℕ, suc, _+_, _*_, _≤_, _<_}
+use lib.Dec.{T}
+use Rattle.sets.specs.Sets.{has}
+use Rattle.meaning.specs.Lists.{isIn}
+use Rattle.meaning.specs.Sheet.{nOf, tOf, parent, contains, containsIn, meetingFrom}
+use Rattle.meaning.specs.Check.{sheetRefusal}
+use Rattle.meaning.specs.Hierarchy.{consistent, completedIn, childIn}
+use Rattle.meaning.specs.Reaction.{TickSets, ambiguous}
+use Rattle.meaning.specs.Tick.{begin, chosen, roundsFrom, tick}
+use Rattle.meaning.specs.Run.{State}
+use Rattle.meaning.specs.SheetRun.{tickFrom, stateAfter, sheetTicks}
+use Rattle.meaning.specs.TickInWords.{timedTick, timedState}
+use Rattle.meaning.specs.OneByOne.{Reaction, takeInOrder, takeTogether}
+use Rattle.meaning.specs.Compile.{walkFrom, walk}
+
+-- a tick from power-on or from a consistent set leaves a consistent set
+unfoldable pub KeepsConsistent : Type 0
+KeepsConsistent =
+    (s : List ℕ) → sheetRefusal s ≡ 0 → (x d i : ℕ) → (x ≡ 0) ⊎ T (consistent s x)
+    → T (consistent s (tick s x d i .sets .modes))
+
+-- at most T rounds a tick, and T times ticks a run
+unfoldable pub TickRounds : Type 0
+TickRounds = (s : List ℕ) (x d i : ℕ) → tick s x d i .rounds ≤ tOf s
+
+unfoldable pub RunRounds : Type 0
+RunRounds = (s inputs : List ℕ) (q : State) → sheetTicks s inputs q .rounds ≤ tOf s * sheetTicks s inputs q .done
+
+-- the fuel of a bounded recursion cuts nothing off: with more of it the answer is the same
+unfoldable pub RoundsEnough : Type 0
+RoundsEnough = (s : List ℕ) (x d i f : ℕ) → roundsFrom s (suc (tOf s) + f) d i (begin s x) 0 ≡ tick s x d i
+
+unfoldable pub WalkEnough : Type 0
+WalkEnough = (s : List ℕ) (w f : ℕ) → walkFrom s w (4096 + f) 0 [] ≡ walk s w
+
+unfoldable pub ContainmentEnough : Type 0
+ContainmentEnough = (s : List ℕ) → sheetRefusal s ≡ 0 → (a m f : ℕ) → m < nOf s → containsIn s (m + f) a m ≡ contains s a m
+
+unfoldable pub MeetingEnough : Type 0
+MeetingEnough =
+    (s : List ℕ) → sheetRefusal s ≡ 0 → (a b f : ℕ) → a < nOf s → b < nOf s
+    → meetingFrom s (a + f) (parent s a) b ≡ meetingFrom s a (parent s a) b
+
+unfoldable pub CompletionEnough : Type 0
+CompletionEnough = (s : List ℕ) → sheetRefusal s ≡ 0 → (x m f : ℕ) → m < nOf s → completedIn s (m + f) x m ≡ completedIn s m x m
+
+unfoldable pub ChildEnough : Type 0
+ChildEnough = (s : List ℕ) → sheetRefusal s ≡ 0 → (p m f : ℕ) → m < nOf s → childIn s (m + f) p m ≡ childIn s m p m
+
+-- the tick in document 01's words, with readings changed round by round, is the tick on due sets: the same refusal, sets and
+-- rounds, and the same state after it
+unfoldable pub InWords : Type 0
+InWords =
+    (s : List ℕ) → sheetRefusal s ≡ 0 → (q : State) (i : ℕ)
+    → (timedTick s q i .tick ≡ tickFrom s q i) × (timedState s q i ≡ stateAfter s q (tickFrom s q i .sets))
+
+-- "the state after a round is the same for every order of its transitions": the eligible transitions of a round that is not
+-- ambiguous, taken one at a time in any order, leave what the round leaves
+unfoldable pub AnyOrder : Type 0
+AnyOrder =
+    (s : List ℕ) → sheetRefusal s ≡ 0 → (y : Reaction) (d i : ℕ) → T (consistent s (y .sets .modes))
+    → ambiguous s (chosen s d i (y .sets)) ≡ false
+    → (order : List ℕ) → ((t : ℕ) → isIn t order ≡ has (chosen s d i (y .sets)) t)
+    → takeInOrder s y order ≡ takeTogether s y (chosen s d i (y .sets))

@@ -1,0 +1,90 @@
+-- Demand 3: one statement over a whole list of table runs. Assumes nothing.
+use mathlib.Core.Path.{_≡_}
+use mathlib.Core.Bool.{Bool, true, false, cond}
+use mathlib.Core.List.{List, [], _∷_, map, flatten}
+use Prim.Native.Nat.{ℕ, zero, suc, _*_, _<_}
+use lib.Dec.{T, ltb}
+use lib.ListN.{length, getD, take}
+use Rattle.meaning.specs.Sheet.{kOf}
+use Rattle.meaning.specs.Hierarchy.{consistent}
+use Rattle.meaning.specs.Run.{State, powerOn, outputShort, inputForeign, stops, Run, ran}
+use Rattle.meaning.specs.SheetRun.{sheetTicks}
+use Rattle.meaning.specs.Table.{bIn, maskIn}
+use Rattle.meaning.specs.TableRun.{tableRun}
+use Rattle.meaning.specs.Compile.{Compiled, compile}
+
+-- one call of the table run: its input list and its output words as they stand at the call
+pub record Call : Type 0 where
+  pub inputs : List ℕ
+  pub out : List ℕ
+
+-- the sets before the first with a bit at k or above
+unfoldable pub legal : ℕ → List ℕ → List ℕ
+legal k [] = []
+legal k (i ∷ is) = let r = i ∷ legal k is in cond (inputForeign k i) [] r
+
+-- "which ticks are done follows from the calls alone": the input sets of the done ticks of a call, and its refusal. "A run is
+-- refused 12, no tick done, exactly when it has fewer than 5 output words per input set; if not, 13 exactly when a set of its
+-- list has a bit at k or above, the ticks before the first such set being done; if not, all its ticks are done and nothing is
+-- refused."
+unfoldable pub doneSets : ℕ → Call → List ℕ
+doneSets k c = cond (outputShort (c .inputs) (c .out)) [] (legal k (c .inputs))
+
+unfoldable pub refusalOf : ℕ → Call → ℕ
+refusalOf k c =
+    cond (outputShort (c .inputs) (c .out)) 12
+    (cond (ltb (length (legal k (c .inputs))) (length (c .inputs))) 13 0)
+
+-- the runs of the table t: a run gets "a state: first the fresh one, then what the run before returned, refused or not"
+unfoldable pub runsFrom : List ℕ → State → List Call → List Run
+runsFrom t q [] = []
+runsFrom t q (c ∷ cs) = let r = tableRun t q (c .inputs) (c .out) in r ∷ runsFrom t (r .state) cs
+
+-- the five words of each done tick of a run, where the run left them
+unfoldable pub doneWords : Run → List ℕ
+doneWords r = take (5 * r .done) (r .out)
+
+-- s: the sheet; t: the table; q and p: the states that the runs and the sheet begin with; cs: the calls
+module _ (s t : List ℕ) (q p : State) (cs : List Call) where
+  -- "The done sets are the input sets of all done ticks, run after run"
+  unfoldable pub allDone : List ℕ
+  allDone = flatten (map (doneSets (kOf s)) cs)
+
+  -- what run j returns, and the state that it gets
+  unfoldable pub runOf : ℕ → Run
+  runOf j = getD (runsFrom t q cs) j (ran [] (stops 0 powerOn))
+
+  unfoldable pub stateBefore : ℕ → State
+  stateBefore zero = q
+  stateBefore (suc j) = runOf j .state
+
+  -- the sheet's state after the done ticks of runs 0 to j
+  unfoldable pub sheetBy : ℕ → State
+  sheetBy j = sheetTicks s (flatten (map (doneSets (kOf s)) (take (suc j) cs))) p .state
+
+  -- what run j, on the call c, returns
+  pub record RunRight (j : ℕ) (c : Call) : Type 0 where
+    pub refusal : runOf j .refusal ≡ refusalOf (kOf s) c
+    pub done : runOf j .done ≡ length (doneSets (kOf s) c)
+    -- "a run with no done tick returns the state it got"
+    pub none : runOf j .done ≡ 0 → runOf j .state ≡ stateBefore j
+    -- "a run whose last done tick it is returns the sheet's readings and the number of a block with that set as its mask"
+    pub readings : 0 < runOf j .done → runOf j .state .readings ≡ sheetBy j .readings
+    pub block : 0 < runOf j .done → runOf j .state .at < bIn t
+    pub mask : 0 < runOf j .done → maskIn t (runOf j .state .at) ≡ sheetBy j .at
+
+  pub record Served : Type 0 where
+    -- "The sheet's meaning is the tick .. fed the done sets in order from the fresh state; it meets no 8 or 9 there."
+    pub unrefused : sheetTicks s allDone p .refusal ≡ 0
+    -- "the five words of the i-th done tick are the sets of the sheet's i-th tick"
+    pub words : flatten (map doneWords (runsFrom t q cs)) ≡ sheetTicks s allDone p .words
+    -- "the sheet's mode set after it is consistent"
+    pub consistently : (i : ℕ) → i < length allDone → T (consistent s (sheetTicks s (take (suc i) allDone) p .state .at))
+    pub runs : (j : ℕ) → j < length cs → RunRight j (getD cs j (record { inputs = []; out = [] }))
+
+-- "Its sheet is any that a compile did not refuse"; "its table is the words left there, as many as the length returned";
+-- "Power-on is the fresh state"; "For every such list".
+unfoldable pub WholeList : Type 0
+WholeList =
+    (s work table : List ℕ) → compile s work table .refusal ≡ 0
+    → (cs : List Call) → Served s (take (compile s work table .tableLength) (compile s work table .table)) powerOn powerOn cs

@@ -1,0 +1,6 @@
+pub mod Tests
+pub mod Membership
+pub mod Facts
+pub mod Members
+pub mod Quantifiers
+pub mod Those

@@ -1,0 +1,55 @@
+-- Truth values as facts: `T b`. Assumes nothing.
+use mathlib.Core.Path.{_≡_, refl, sym, subst}
+use mathlib.Core.Logic.{_⊎_, inl, inr}
+use mathlib.Core.Bool.{Bool, true, false, not, _&&_, _||_}
+use lib.Dec.{T}
+
+pub is-true : (b : Bool) → T b → b ≡ true
+is-true true h = refl
+is-true false h = absurd h
+
+pub is-false : (b : Bool) → (T b → ⊥) → b ≡ false
+is-false true h = absurd (h tt)
+is-false false h = refl
+
+pub of-true : {b : Bool} → b ≡ true → T b
+of-true e = subst T (sym e) tt
+
+pub and-l : (a b : Bool) → T (a && b) → T a
+and-l true b h = tt
+and-l false b h = h
+
+pub and-r : (a b : Bool) → T (a && b) → T b
+and-r true b h = h
+and-r false b h = absurd h
+
+pub and-i : (a b : Bool) → T a → T b → T (a && b)
+and-i true b x y = y
+and-i false b x y = x
+
+pub or-e : (a b : Bool) → T (a || b) → T a ⊎ T b
+or-e true b h = inl tt
+or-e false b h = inr h
+
+pub or-l : (a b : Bool) → T a → T (a || b)
+or-l true b h = tt
+or-l false b h = absurd h
+
+pub or-r : (a b : Bool) → T b → T (a || b)
+or-r true b h = tt
+or-r false b h = h
+
+-- not a, or b: from a follows b
+pub implied : (a b : Bool) → T (not a || b) → T a → T b
+implied true b h k = h
+implied false b h k = absurd k
+
+pub implies : (a b : Bool) → (T a → T b) → T (not a || b)
+implies true b h = h tt
+implies false b h = tt
+
+-- two truth values that follow from one another are equal
+pub bool-ext : (a b : Bool) → (T a → T b) → (T b → T a) → a ≡ b
+bool-ext true b f g = sym (is-true b (f tt))
+bool-ext false true f g = absurd (g tt)
+bool-ext false false f g = refl
