@@ -1,0 +1,128 @@
+-- Laws of readings: every running reading stays 1 to its delay; the rounds of a run. Assumes nothing.
+use mathlib.Core.Path.{_≡_, refl, sym, ap, _∙_, subst}
+use mathlib.Core.Logic.{_⊎_, inl, inr}
+use mathlib.Core.Bool.{Bool, true, false, not, _&&_, _||_, cond}
+use mathlib.Core.List.{List, [], _∷_}
+use Prim.Native.Nat.{ℕ, zero, suc, _+_, _-_, _*_, _≤_, _<_, zero-le}
+use native.Mathlib.Nat.{zero-add, mul-suc, lt-of-lt-of-le}
+use native.Mathlib.Omega.{arith}
+use lib.Dec.{T, eqb, ltb, ltb→lt}
+use lib.ListN.{getD}
+use borrow.Author.Tests.{eqb-false}
+use Rattle.sets.specs.Sets.{has}
+use Rattle.sets.proofs.Tests.{is-true, is-false, and-r, and-i}
+use Rattle.sets.proofs.Membership.{has-none}
+use Rattle.sets.proofs.Those.{has-those}
+use Rattle.meaning.specs.Sheet.{nOf, kOf, tOf, source}
+use Rattle.meaning.specs.Reaction.{TickSets, isDelay, delay, isTimer, running}
+use Rattle.meaning.specs.Tick.{Tick, tick, fiveWords}
+use Rattle.meaning.specs.Run.{State, reading, dueTimers, nextReadings, Ticks, stops, tickThen, inputForeign}
+use Rattle.meaning.specs.SheetRun.{tickFrom, stateAfter, sheetTicks}
+use Rattle.meaning.specs.Promises.{RunRounds}
+use Rattle.meaning.proofs.ListLaws.{rowFrom-at}
+use Rattle.meaning.proofs.SheetLaws.{Sound, t-le}
+use Rattle.meaning.proofs.TickLaws.{kept, not-due, rounds-le, Runs, running-e, running-i}
+
+-- the reading of t after a tick
+pub next-reading : (timers entered : ℕ) (sourceOf delayOf : ℕ → ℕ) (q : State) (t : ℕ) → t < 64
+    → getD (nextReadings timers entered sourceOf delayOf q) t 0
+    ≡ cond (has timers t) (cond (has entered (sourceOf t)) (delayOf t) (reading q t - 1)) 0
+unfolding nextReadings
+next-reading timers entered sourceOf delayOf q t l =
+    let f : ℕ → ℕ = λ u. cond (has timers u) (cond (has entered (sourceOf u)) (delayOf u) (reading q u - 1)) 0 in
+    rowFrom-at f 0 0 64 t l ∙ ap f (zero-add t)
+
+-- a timer is due where it runs and its lowered reading is 0
+pub due-at : (timers : ℕ) (q : State) (t : ℕ) → t < 64 → has (dueTimers timers q) t ≡ (has timers t && eqb (reading q t - 1) 0)
+unfolding dueTimers
+due-at timers q t l = has-those 64 timers (λ u. eqb (reading q u - 1) 0) t l
+
+-- a timer's delay is 1 or more
+pub delay-pos : (s : List ℕ) (t : ℕ) → T (isTimer s t) → 1 ≤ delay s t
+unfolding isTimer
+delay-pos s t h = ltb→lt 0 (delay s t) (and-r (isDelay s t) (ltb 0 (delay s t)) h)
+
+module _ (s : List ℕ) where
+  -- every running reading is 1 to its delay
+  unfoldable pub Right : State → Type 0
+  Right p = (t : ℕ) → T (has (running s (p .at)) t) → (1 ≤ reading p t) × (reading p t ≤ delay s t)
+
+  pub right-fresh : (p : State) → p .at ≡ 0 → Right p
+  unfolding Right
+  right-fresh p e t r = absurd (subst T (ap (λ (x : ℕ). has x (source s t)) e ∙ has-none (source s t)) (running-e s (p .at) t r .on))
+
+  pub right-next : Sound s → (p : State) (i : ℕ) → Right p → tickFrom s p i .refusal ≡ 0 → Right (stateAfter s p (tickFrom s p i .sets))
+  unfolding Right tickFrom stateAfter
+  right-next sd p i h e t r = go (has (z .entered) (source s t)) refl
+    where
+      timers : ℕ
+      timers = running s (p .at)
+
+      z : TickSets
+      z = tick s (p .at) (dueTimers timers p) i .sets
+
+      q : State
+      q = stateAfter s p z
+
+      on : Runs s (z .modes) t
+      on = running-e s (z .modes) t r
+
+      small : t < 64
+      small = lt-of-lt-of-le (on .small) (t-le s sd)
+
+      value : (b : Bool) → has (z .entered) (source s t) ≡ b → reading q t ≡ cond b (delay s t) (reading p t - 1)
+      value b g =
+          unfold reading in
+          (next-reading (running s (z .modes)) (z .entered) (source s) (delay s) p t small
+          ∙ ap (λ (c : Bool). cond c (cond (has (z .entered) (source s t)) (delay s t) (reading p t - 1)) 0) (is-true (has (running s (z .modes)) t) r)
+          ∙ ap (λ (c : Bool). cond c (delay s t) (reading p t - 1)) g)
+
+      went-on : T (has (p .at) (source s t)) ⊎ T (has (z .entered) (source s t)) → has (z .entered) (source s t) ≡ false → T (has (p .at) (source s t))
+      went-on (inl k) g = k
+      went-on (inr k) g = absurd (subst T g k)
+
+      ran : has (z .entered) (source s t) ≡ false → T (has timers t)
+      ran g =
+          running-i s (p .at) t
+          (record { small = on .small; timer = on .timer; on = went-on (kept s (dueTimers timers p) i (p .at) (source s t) (on .on)) g })
+
+      left : has (z .entered) (source s t) ≡ false → eqb (reading p t - 1) 0 ≡ false
+      left g =
+          is-false (eqb (reading p t - 1) 0) (λ k.
+          subst T (sym (due-at timers p t small) ∙ not-due s sd (dueTimers timers p) i (p .at) e t r g)
+          (and-i (has timers t) (eqb (reading p t - 1) 0) (ran g) k))
+
+      go : (b : Bool) → has (z .entered) (source s t) ≡ b → (1 ≤ reading q t) × (reading q t ≤ delay s t)
+      go true g = let v : reading q t ≡ delay s t = value true g in (omega (arith, delay-pos s t (on .timer)), omega arith)
+      go false g =
+          let v : reading q t ≡ reading p t - 1 = value false g in
+          let k = h t (ran g) in
+          let n = eqb-false (reading p t - 1) 0 (left g) in
+          (omega arith, omega arith)
+
+  -- the rounds of a run are at most T for each done tick
+  rounds-total : (is : List ℕ) (p : State) → sheetTicks s is p .rounds ≤ tOf s * sheetTicks s is p .done
+  unfolding sheetTicks stops tickThen
+  rounds-total [] p = zero-le
+  rounds-total (i ∷ is) p = go (inputForeign (kOf s) i) (eqb (o .refusal) 0) (rounds-total is (stateAfter s p (o .sets)))
+    where
+      o : Tick
+      o = tickFrom s p i
+
+      rest : Ticks
+      rest = sheetTicks s is (stateAfter s p (o .sets))
+
+      res : Bool → Bool → Ticks
+      res a b = cond a (stops 13 p) (cond b (tickThen (fiveWords (o .sets)) (o .rounds) rest) (stops (o .refusal) p))
+
+      one : o .rounds ≤ tOf s
+      one = unfold tickFrom in (rounds-le s (dueTimers (running s (p .at)) p) i (p .at))
+
+      go : (a b : Bool) → rest .rounds ≤ tOf s * rest .done → res a b .rounds ≤ tOf s * res a b .done
+      go true b h = zero-le
+      go false false h = zero-le
+      go false true h = omega (arith, one, mul-suc (tOf s) (rest .done))
+
+pub run-rounds : RunRounds
+unfolding RunRounds
+run-rounds s inputs q = rounds-total s inputs q
