@@ -1,5 +1,19 @@
+-- Laws in the order of the definitions, then the theorems.
 pub mod ListLaws
+pub mod ListedLaws
 pub mod SheetLaws
+pub mod Containment
+pub mod Completion
+pub mod Fuel
 pub mod TickLaws
+pub mod Consistency
+pub mod AnyOrder
 pub mod RunLaws
 pub mod TickInWordsLaws
+pub mod WalkFuel
+pub mod WalkLaws
+pub mod TableLaws
+pub mod Simulation
+pub mod TableSound
+pub mod ServedLaws
+pub mod Theorem

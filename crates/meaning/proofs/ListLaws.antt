@@ -4,10 +4,11 @@ use mathlib.Core.Logic.{_⊎_, inl, inr}
 use mathlib.Core.Bool.{Bool, true, false, not, _&&_, _||_, cond}
 use mathlib.Core.List.{List, [], _∷_}
 use Prim.Native.Nat.{ℕ, zero, suc, _+_, _≤_, _<_, zero-le}
-use native.Mathlib.Nat.{le-refl, not-suc-le-zero, le-of-suc-le-suc, add-zero}
+use native.Mathlib.Nat.{le-refl, not-suc-le-zero, le-of-suc-le-suc, add-zero, zero-add}
 use native.Mathlib.Omega.{arith}
-use lib.Dec.{T, eqb, eqb-refl}
+use lib.Dec.{T, eqb, eqb→eq, eqb-refl}
 use lib.ListN.{length, getD}
+use lib.Seq.{ext-getD}
 use Rattle.sets.proofs.Tests.{of-true, and-l, and-r, and-i, or-e, or-l, or-r}
 use Rattle.meaning.specs.Lists.{rowFrom, isIn, allOf, firstOf}
 
@@ -25,6 +26,12 @@ pub allOf-i : (bs : List Bool) → Holds bs → T (allOf bs)
 unfolding allOf
 allOf-i [] h = tt
 allOf-i (b ∷ bs) h = and-i b (allOf bs) (h .0) (allOf-i bs (h .1))
+
+-- the parts of a product in a row, for `allOf-i`
+infixr 3 _▹_
+
+pub _▹_ : {A B : Type 0} → A → B → A × B
+a ▹ b = (a, b)
 
 -- none of the tests of a list applies
 abbrev pub Off : List Bool → Type 0
@@ -56,3 +63,33 @@ pub rowFrom-length : {A : Type 0} (f : ℕ → A) (i w : ℕ) → length (rowFro
 unfolding rowFrom
 rowFrom-length f i zero = refl
 rowFrom-length f i (suc w) = ap suc (rowFrom-length f (suc i) w)
+
+-- a list is the row of its places
+pub rowFrom-getD : {A : Type 0} (l : List A) (a : A) → l ≡ rowFrom 0 (length l) (λ j. getD l j a)
+rowFrom-getD {A} l a =
+    let f : ℕ → A = λ j. getD l j a in
+    ext-getD a l (rowFrom 0 (length l) f) (sym (rowFrom-length f 0 (length l)))
+    (λ i h. sym (rowFrom-at f a 0 (length l) i h ∙ ap f (zero-add i)))
+
+-- a member of the list has p
+unfoldable pub anyOf : (ℕ → Bool) → List ℕ → Bool
+anyOf p [] = false
+anyOf p (t ∷ ts) = let r = anyOf p ts in p t || r
+
+pub anyOf-e : (p : ℕ → Bool) (l : List ℕ) → T (anyOf p l) → (t : ℕ) × T (isIn t l) × T (p t)
+unfolding anyOf isIn
+anyOf-e p [] h = absurd h
+anyOf-e p (t ∷ ts) h = go (or-e (p t) (anyOf p ts) h) (anyOf-e p ts)
+  where
+    go : T (p t) ⊎ T (anyOf p ts) → (T (anyOf p ts) → (u : ℕ) × T (isIn u ts) × T (p u)) → (u : ℕ) × T (eqb u t || isIn u ts) × T (p u)
+    go (inl k) ih = (t, or-l (eqb t t) (isIn t ts) (eqb-refl t), k)
+    go (inr k) ih = let r = ih k in (r .0, or-r (eqb (r .0) t) (isIn (r .0) ts) (r .1), r .2)
+
+pub anyOf-i : (p : ℕ → Bool) (l : List ℕ) (t : ℕ) → T (isIn t l) → T (p t) → T (anyOf p l)
+unfolding anyOf isIn
+anyOf-i p [] t h k = absurd h
+anyOf-i p (u ∷ us) t h k = go (or-e (eqb t u) (isIn t us) h) (λ g. anyOf-i p us t g k)
+  where
+    go : T (eqb t u) ⊎ T (isIn t us) → (T (isIn t us) → T (anyOf p us)) → T (p u || anyOf p us)
+    go (inl e) ih = or-l (p u) (anyOf p us) (subst (λ (i : ℕ). T (p i)) (eqb→eq t u e) k)
+    go (inr g) ih = or-r (p u) (anyOf p us) (ih g)

@@ -13,7 +13,7 @@ use borrow.Author.Tests.{eqb-true, eqb-false, not-false}
 use Rattle.sets.specs.Sets.{some, every}
 use Rattle.sets.proofs.Tests.{of-true, and-l, and-r, or-e}
 use Rattle.sets.proofs.Facts.{every-e}
-use Rattle.meaning.specs.Sheet.{nOf, tOf, kind, parent, source, target, endBefore, termCount, containsIn, contains, strictlyContains}
+use Rattle.meaning.specs.Sheet.{nOf, kOf, tOf, kind, parent, source, target, endBefore, termCount, containsIn, contains, strictlyContains}
 use Rattle.meaning.specs.Check.{headOk, modeOk, modesOk, pairOk, pairsOk, endOk, endsOk, termOk, termsOk, distinctOk, sheetRefusal}
 use Rattle.meaning.proofs.ListLaws.{Holds, allOf-e, Off, firstOf-off}
 
@@ -44,7 +44,7 @@ sound s h =
     }
 
 module _ (s : List ℕ) (h : Sound s) where
-  -- 1 to 32 modes, at most 64 transitions
+  -- 1 to 32 modes, at most 6 events and 64 transitions
   pub n-pos : 0 < nOf s
   unfolding headOk
   n-pos = leb→le 1 (nOf s) (allOf-e _ (h .head) .1 .0)
@@ -52,6 +52,10 @@ module _ (s : List ℕ) (h : Sound s) where
   pub n-le : nOf s ≤ 32
   unfolding headOk
   n-le = leb→le (nOf s) 32 (allOf-e _ (h .head) .1 .1 .0)
+
+  pub k-le : kOf s ≤ 6
+  unfolding headOk
+  k-le = leb→le (kOf s) 6 (allOf-e _ (h .head) .1 .1 .1 .0)
 
   pub t-le : tOf s ≤ 64
   unfolding headOk

@@ -10,7 +10,7 @@ use lib.Dec.{T, eqb, ltb, lt→ltb}
 use lib.ListN.{getD}
 use borrow.Author.Tests.{eqb-false, ne-eqb}
 use Rattle.sets.specs.Sets.{has, setOf, single}
-use Rattle.sets.proofs.Tests.{is-true, is-false, of-true, and-l, and-r, and-i, or-e}
+use Rattle.sets.proofs.Tests.{is-true, is-false, of-true, and-l, and-i, or-e, cond-ext}
 use Rattle.sets.proofs.Membership.{has-none, setOf-same}
 use Rattle.meaning.specs.Lists.{rowFrom}
 use Rattle.meaning.specs.Sheet.{tOf, source}
@@ -200,16 +200,12 @@ module _ (s : List ℕ) (sd : Sound s) (q : State) (i : ℕ) where
   unfolding timedTick tickFrom tick
   both = together s sd d i low (suc (tOf s)) (begin s (q .at)) (startReadings s q) 0 inv-start
 
-  cond-ext : (b : Bool) (x y : ℕ) → (T b → x ≡ y) → cond b x 0 ≡ cond b y 0
-  cond-ext true x y h = h tt
-  cond-ext false x y h = refl
-
   state-same : timedState s q i ≡ stateAfter s q (tickFrom s q i .sets)
   unfolding timedState stateAfter nextReadings Inv
   state-same =
       ap₂ (λ (m : ℕ) (l : List ℕ). record { at = m; readings = l }) (ap (λ (o : Tick). o .sets .modes) (both .0))
       (rowFrom-ext (λ t. cond (has (running s (z .modes)) t) (getD (timedTick s q i .readings) t 0) 0) (row z) 0 64
-      (λ t a b. cond-ext (has (running s (z .modes)) t) (getD (timedTick s q i .readings) t 0) (cond (has (z .entered) (source s t)) (delay s t) (low t))
+      (λ t a b. cond-ext (has (running s (z .modes)) t) (getD (timedTick s q i .readings) t 0) (cond (has (z .entered) (source s t)) (delay s t) (low t)) 0
       (λ h. both .1 t (running-e s (z .modes) t h) .value))
       ∙ ap (λ (o : Tick). rowFrom 0 64 (row (o .sets))) (both .0))
     where

@@ -10,7 +10,7 @@ use lib.Dec.{T, eqb, ltb, lt→ltb}
 use borrow.Author.Tests.{eqb-true, eqb-false}
 use Rattle.sets.specs.Sets.{has, union, minus, single, those, size, someIn}
 use Rattle.sets.proofs.Tests.{is-false, of-true, and-l, and-r, and-i, or-e, or-l, or-r}
-use Rattle.sets.proofs.Membership.{has-none, has-union, has-minus}
+use Rattle.sets.proofs.Membership.{has-none, has-union, has-minus, setOf-lt}
 use Rattle.sets.proofs.Facts.{setOf-e, setOf-i, those-e, those-i, someIn-e, someIn-i, size-le, size-lt}
 use Rattle.sets.proofs.Those.{those-lt}
 use Rattle.sets.proofs.Members.{empty}
@@ -335,6 +335,12 @@ pub running-i : (s : List ℕ) (x t : ℕ) → Runs s x t → T (has (running s 
 unfolding running
 running-i s x t r =
     setOf-i (tOf s) (λ u. isTimer s u && has x (source s u)) t (r .small) (and-i (isTimer s t) (has x (source s t)) (r .timer) (r .on))
+
+-- no timer runs at power-on
+pub running-none : (s : List ℕ) → running s 0 ≡ 0
+running-none s =
+    empty (tOf s) (unfold running in (setOf-lt (tOf s) (λ t. isTimer s t && has 0 (source s t))))
+    (λ t l. is-false (has (running s 0) t) (λ h. subst T (has-none (source s t)) (running-e s 0 t h .on)))
 
 -- a timer that still runs and was not entered was not due
 

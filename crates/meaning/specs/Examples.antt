@@ -71,6 +71,13 @@ inside-and-leaving =
 abbrev outer-first : List ℕ
 outer-first = 5 ∷ 1 ∷ 3 ∷ 1 ∷ 0 ∷ 1 ∷ 1 ∷ 0 ∷ 2 ∷ 0 ∷ 1 ∷ 0 ∷ 0 ∷ 1 ∷ 0 ∷ 0 ∷ 0 ∷ 0 ∷ 24 ∷ 4 ∷ 28 ∷ 4 ∷ 32 ∷ 4 ∷ 2 ∷ 3 ∷ 1 ∷ 0 ∷ 3 ∷ 2 ∷ 6 ∷ 0 ∷ 1 ∷ 4 ∷ 6 ∷ 1 ∷ []
 
+-- two regions: 3→4 on event 0; 5→6 once transition 0 is taken, and 5→7 on event 0. Terms see the sets as the round began, so
+-- 5→7 is taken together with 3→4, and 5→6 is never triggered with it.
+abbrev as-began : List ℕ
+as-began =
+    8 ∷ 1 ∷ 3 ∷ 2 ∷ 0 ∷ 0 ∷ 1 ∷ 0 ∷ 3 ∷ 1 ∷ 0 ∷ 5 ∷ 0 ∷ 1 ∷ 0 ∷ 0 ∷ 1 ∷ 0 ∷ 0 ∷ 2 ∷ 0 ∷ 0 ∷ 2 ∷ 0 ∷ 0 ∷ 2 ∷ 0
+    ∷ 33 ∷ 4 ∷ 37 ∷ 4 ∷ 41 ∷ 4 ∷ 3 ∷ 4 ∷ 1 ∷ 0 ∷ 5 ∷ 6 ∷ 6 ∷ 0 ∷ 5 ∷ 7 ∷ 1 ∷ 0 ∷ []
+
 -- six parallel regions, each with modes A and B, a timer A to B and a delay of 0 from B to A
 abbrev six : List ℕ
 six =
@@ -121,6 +128,8 @@ pub record Examples : Type 0 where
   pub leaving : refusal inside-and-leaving ≡ 8
   -- a containing source: not among the document's examples
   pub outer-taken : sheetRun outer-first powerOn (0 ∷ 1 ∷ []) (lent 10) .out ≡ 7 ∷ 0 ∷ 7 ∷ 0 ∷ 0 ∷ 28 ∷ 14 ∷ 31 ∷ 7 ∷ 0 ∷ []
+  -- sets as the round began: not among the document's examples either
+  pub judged-as-began : sheetRun as-began powerOn (1 ∷ []) (lent 5) .out ≡ 191 ∷ 40 ∷ 191 ∷ 5 ∷ 0 ∷ []
 
 examples : Examples
 unfolding opened
@@ -144,4 +153,5 @@ examples =
       modes-33 = refl;
       leaving = refl;
       outer-taken = refl;
+      judged-as-began = refl;
     }

@@ -6,6 +6,7 @@ use mathlib.Core.Bool.{Bool, true, false}
 use mathlib.Core.List.{List, []}
 use Prim.Native.Nat.{ℕ, suc, _+_, _*_, _≤_, _<_}
 use lib.Dec.{T}
+use lib.ListN.{length}
 use Rattle.sets.specs.Sets.{has}
 use Rattle.meaning.specs.Lists.{isIn}
 use Rattle.meaning.specs.Sheet.{nOf, tOf, parent, contains, containsIn, meetingFrom}
@@ -64,7 +65,7 @@ InWords =
 -- ambiguous, taken one at a time in any order, leave what the round leaves
 unfoldable pub AnyOrder : Type 0
 AnyOrder =
-    (s : List ℕ) → sheetRefusal s ≡ 0 → (y : Reaction) (d i : ℕ) → T (consistent s (y .sets .modes))
+    (s : List ℕ) → sheetRefusal s ≡ 0 → (y : Reaction) (d i : ℕ) → length (y .readings) ≡ 64
     → ambiguous s (chosen s d i (y .sets)) ≡ false
     → (order : List ℕ) → ((t : ℕ) → isIn t order ≡ has (chosen s d i (y .sets)) t)
     → takeInOrder s y order ≡ takeTogether s y (chosen s d i (y .sets))

@@ -1,7 +1,7 @@
 -- Truth values as facts: `T b`. Assumes nothing.
 use mathlib.Core.Path.{_≡_, refl, sym, subst}
 use mathlib.Core.Logic.{_⊎_, inl, inr}
-use mathlib.Core.Bool.{Bool, true, false, not, _&&_, _||_}
+use mathlib.Core.Bool.{Bool, true, false, not, _&&_, _||_, cond}
 use lib.Dec.{T}
 
 pub is-true : (b : Bool) → T b → b ≡ true
@@ -53,3 +53,12 @@ pub bool-ext : (a b : Bool) → (T a → T b) → (T b → T a) → a ≡ b
 bool-ext true b f g = sym (is-true b (f tt))
 bool-ext false true f g = absurd (g tt)
 bool-ext false false f g = refl
+
+-- a choice with the same on both sides, and two choices that agree where the test passes
+pub cond-same : {A : Type 0} (b : Bool) (x : A) → cond b x x ≡ x
+cond-same true x = refl
+cond-same false x = refl
+
+pub cond-ext : {A : Type 0} (b : Bool) (x y z : A) → (T b → x ≡ y) → cond b x z ≡ cond b y z
+cond-ext true x y z h = h tt
+cond-ext false x y z h = refl
