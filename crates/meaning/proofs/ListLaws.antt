@@ -29,7 +29,6 @@ allOf-i (b ∷ bs) h = and-i b (allOf bs) (h .0) (allOf-i bs (h .1))
 
 -- the parts of a product in a row, for `allOf-i`
 infixr 3 _▹_
-
 pub _▹_ : {A B : Type 0} → A → B → A × B
 a ▹ b = (a, b)
 

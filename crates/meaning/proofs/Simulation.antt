@@ -30,6 +30,7 @@ use Rattle.meaning.proofs.ListedLaws.{place-at}
 use Rattle.meaning.proofs.SheetLaws.{Sound}
 use Rattle.meaning.proofs.TickLaws.{running-e}
 use Rattle.meaning.proofs.RunLaws.{Right, right-next}
+use Rattle.meaning.proofs.WalkLaws.{Closed}
 use Rattle.meaning.proofs.TableLaws.{tbl, maskOf, k-in, timer-word, timers-in, cell-in, dueSet-dueTimers, dueNumber-lt}
 
 -- ---- readings after a tick agree where sources and delays do on the running timers
@@ -196,8 +197,7 @@ module _ (s : List ℕ) (sd : Sound s) (listed : List ℕ) where
 -- ---- a whole run
 
 module _ (s : List ℕ) (sd : Sound s) (listed : List ℕ)
-    (closed : (a : ℕ) → a ≤ length listed → (k : ℕ) → k < cellCount s (getD (0 ∷ listed) a 0)
-    → (cellTick s (getD (0 ∷ listed) a 0) k .refusal ≡ 0) × T (isIn (cellTick s (getD (0 ∷ listed) a 0) k .sets .modes) listed)) where
+    (closed : Closed s listed) where
   -- the table's ticks R on a list, from q, and the sheet's ticks S on its done sets ds, from p
   pub record Agree (q p : State) (is ds : List ℕ) (R S : Ticks) : Type 0 where
     pub unrefused : S .refusal ≡ 0

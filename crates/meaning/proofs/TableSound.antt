@@ -26,14 +26,14 @@ use Rattle.meaning.proofs.ListedLaws.{isIn-at, place-at}
 use Rattle.meaning.proofs.SheetLaws.{Sound, n-le, k-le, t-le, source-lt}
 use Rattle.meaning.proofs.TickLaws.{running-e, running-none}
 use Rattle.meaning.proofs.RunLaws.{Right, delay-pos}
+use Rattle.meaning.proofs.WalkLaws.{Closed}
 use Rattle.meaning.proofs.TableLaws.{tbl, maskOf, bs, start, wordsBefore, wordsBefore-next, wordsBefore-all, map-at, blocks, k-in, t-in, b-in, timer-word, table-length, offset-in, length-in, block-length, mask-in, timers-in, cell-in}
 use Rattle.meaning.proofs.Simulation.{source-in, delay-in, Stands, timers-stand}
 
 module _ (s : List ℕ) (sd : Sound s) (listed : List ℕ)
     (short : length listed ≤ 4095)
     (each : (x : ℕ) → T (isIn x listed) → (0 < x) × (size 64 (running s x) ≤ 6))
-    (closed : (a : ℕ) → a ≤ length listed → (k : ℕ) → k < cellCount s (getD (0 ∷ listed) a 0)
-    → (cellTick s (getD (0 ∷ listed) a 0) k .refusal ≡ 0) × T (isIn (cellTick s (getD (0 ∷ listed) a 0) k .sets .modes) listed)) where
+    (closed : Closed s listed) where
   abbrev t : List ℕ
   t = tbl s listed
 

@@ -1,7 +1,31 @@
--- The whole-list theorem. Assumes nothing.
+-- The whole-list theorem, and all that is promised besides. Assumes nothing.
 use Rattle.meaning.specs.WholeList.{WholeList}
-use Rattle.meaning.proofs.Consistency.{keeps-consistent}
+use Rattle.meaning.specs.Promises.{Promised}
+use Rattle.meaning.proofs.Consistency.{keeps-consistent, keeps}
+use Rattle.meaning.proofs.TickLaws.{tick-rounds, rounds-enough}
+use Rattle.meaning.proofs.RunLaws.{run-rounds}
+use Rattle.meaning.proofs.Fuel.{containment-enough, meeting-enough, completion-enough, child-enough}
+use Rattle.meaning.proofs.WalkFuel.{walk-enough}
+use Rattle.meaning.proofs.TickInWordsLaws.{in-words}
+use Rattle.meaning.proofs.AnyOrder.{any-order}
 use Rattle.meaning.proofs.ServedLaws.{whole-list-from}
 
+-- a table that compile made runs, from power-on and over any list of calls, as its sheet does
 pub whole-list : WholeList
 whole-list = whole-list-from keeps-consistent
+
+pub promised : Promised
+promised =
+    record {
+      keepsConsistent = keeps;
+      tickRounds = tick-rounds;
+      runRounds = run-rounds;
+      roundsEnough = rounds-enough;
+      walkEnough = walk-enough;
+      containmentEnough = containment-enough;
+      meetingEnough = meeting-enough;
+      completionEnough = completion-enough;
+      childEnough = child-enough;
+      inWords = in-words;
+      anyOrder = any-order;
+    }

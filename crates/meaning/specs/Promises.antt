@@ -69,3 +69,17 @@ AnyOrder =
     → ambiguous s (chosen s d i (y .sets)) ≡ false
     → (order : List ℕ) → ((t : ℕ) → isIn t order ≡ has (chosen s d i (y .sets)) t)
     → takeInOrder s y order ≡ takeTogether s y (chosen s d i (y .sets))
+
+-- all of them
+pub record Promised : Type 0 where
+  pub keepsConsistent : KeepsConsistent
+  pub tickRounds : TickRounds
+  pub runRounds : RunRounds
+  pub roundsEnough : RoundsEnough
+  pub walkEnough : WalkEnough
+  pub containmentEnough : ContainmentEnough
+  pub meetingEnough : MeetingEnough
+  pub completionEnough : CompletionEnough
+  pub childEnough : ChildEnough
+  pub inWords : InWords
+  pub anyOrder : AnyOrder
