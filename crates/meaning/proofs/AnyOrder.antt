@@ -1,18 +1,15 @@
 -- The transitions of a round, taken one at a time in any order, leave what the round leaves. Assumes nothing.
 use mathlib.Core.Path.{_≡_, refl, sym, ap, ap₂, _∙_, subst}
-use mathlib.Core.Logic.{_⊎_, inl, inr}
 use mathlib.Core.Bool.{Bool, true, false, not, _&&_, _||_, cond, and-true, and-false, or-false, or-assoc}
 use mathlib.Core.List.{List, [], _∷_}
-use Prim.Native.Nat.{ℕ, zero, suc, _+_, _^_, _<_}
-use native.Mathlib.Nat.{lt-of-lt-of-le, zero-add, pow-suc}
+use Prim.Native.Nat.{ℕ, _+_, _<_}
+use native.Mathlib.Nat.{zero-add}
 use native.Mathlib.Omega.{arith}
-use lib.Dec.{T, eqb, eqb→eq, eqb-refl}
+use lib.Dec.{T, eqb, eqb-refl}
 use lib.ListN.{length, getD}
-use lib.Pow.{pow-mono}
-use lib.Seq.{ext-getD}
 use Rattle.sets.specs.Sets.{has, minus, meet, single}
-use Rattle.sets.proofs.Tests.{and-l, and-r, and-i, or-e, or-l, or-r, bool-ext}
-use Rattle.sets.proofs.Membership.{ext, has-union, has-meet, has-minus, has-single}
+use Rattle.sets.proofs.Tests.{and-l, and-r, and-i, or-l, or-r, bool-ext}
+use Rattle.sets.proofs.Membership.{same-members, has-union, has-meet, has-minus, has-single}
 use Rattle.meaning.specs.Lists.{rowFrom, isIn}
 use Rattle.meaning.specs.Sheet.{tOf, source}
 use Rattle.meaning.specs.Hierarchy.{exits, enters}
@@ -25,17 +22,6 @@ use Rattle.meaning.proofs.ListLaws.{rowFrom-at, rowFrom-ext, rowFrom-le
 use Rattle.meaning.proofs.SheetLaws.{Sound, sound}
 use Rattle.meaning.proofs.TickLaws.{chosen-lt, modes-after, running-e, running-i}
 use Rattle.meaning.proofs.Consistency.{exiting-e, exiting-i, entering-e, entering-i, clear-apart, exits-enters-apart}
-
--- ---- laws of sets and lists
-
-lt-two-pow : (x : ℕ) → x < 2 ^ x
-lt-two-pow zero = omega arith
-lt-two-pow (suc x) = omega (arith, pow-suc 2 x, lt-two-pow x)
-
--- two sets with the same members are equal, however large
-same-members : {a b : ℕ} → ((i : ℕ) → has a i ≡ has b i) → a ≡ b
-same-members {a} {b} h =
-    ext (a + b) (lt-of-lt-of-le (lt-two-pow a) (pow-mono (omega arith))) (lt-of-lt-of-le (lt-two-pow b) (pow-mono (omega arith))) (λ i l. h i)
 
 -- ---- one transition more, at one mode: y it is active; x, n the transition exits, enters it; x′, n′ a later one does
 

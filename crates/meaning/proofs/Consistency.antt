@@ -6,13 +6,13 @@ use mathlib.Core.List.{List, [], _∷_}
 use Prim.Native.Nat.{ℕ, suc, _^_, _<_}
 use native.Mathlib.Nat.{le-trans, lt-of-le-of-lt, not-suc-le-zero, eq-zero-or-pos}
 use native.Mathlib.Omega.{arith}
-use lib.Dec.{T, eqb, ltb, eqb→eq, eqb-refl, ltb→lt, lt→ltb, T-not, not-T}
+use lib.Dec.{T, eqb, ltb, eqb→eq, ltb→lt, lt→ltb, T-not, not-T}
 use borrow.Author.Tests.{eqb-true, eqb-false, eq-eqb}
 use Rattle.sets.specs.Sets.{has, single, setOf, those, size, someIn, everyIn}
-use Rattle.sets.proofs.Tests.{of-true, and-l, and-r, and-i, or-e, or-l, or-r, implied, implies, bool-ext}
-use Rattle.sets.proofs.Membership.{ext, has-single, single-lt, setOf-lt, union-lt, minus-le}
+use Rattle.sets.proofs.Tests.{of-true, and-l, and-r, and-i, or-e, or-l, or-r, implied, implies}
+use Rattle.sets.proofs.Membership.{has-single, setOf-lt, union-lt, minus-le}
 use Rattle.sets.proofs.Facts.{setOf-e, setOf-i, those-e, those-i, someIn-e, someIn-i, everyIn-e, everyIn-i}
-use Rattle.sets.proofs.Quantifiers.{one-member, size-single}
+use Rattle.sets.proofs.Quantifiers.{size-one-e, size-one-i}
 use Rattle.sets.proofs.Those.{those-lt}
 use Rattle.meaning.specs.Sheet.{nOf, tOf, kind, parent, isChild, source, target, contains, meeting}
 use Rattle.meaning.specs.Hierarchy.{children, consistent, memberOk, completedIn, complete, childHolding, exits, enters}
@@ -24,21 +24,6 @@ use Rattle.meaning.proofs.SheetLaws.{Sound, sound, n-pos}
 use Rattle.meaning.proofs.TickLaws.{Taken, rounds-ind, chosen-lt, chosen-triggered, modes-after}
 use Rattle.meaning.proofs.Containment.{Within, here, up, isChild-e, isChild-i, parent-n, parent-root, within-le, within-trans, within-strict, within-total, contains-e, contains-i, not-above, siblings, Ends, ends}
 use Rattle.meaning.proofs.Completion.{complete-e, Whole, whole}
-
--- ---- laws of sets: a set of one member
-
-size-one-e : (w a : ℕ) → a < 2 ^ w → size w a ≡ 1 → (j : ℕ) × (j < w) × T (has a j) × ((i : ℕ) → T (has a i) → i ≡ j)
-size-one-e w a l e =
-    let r = one-member w a l e in
-    let t = r .0 in
-    let at : (i : ℕ) → has a i ≡ eqb i t = λ i. ap (λ (b : ℕ). has b i) (r .2) ∙ has-single t i in
-    (t, r .1, subst T (sym (at t)) (eqb-refl t), λ i h. eqb→eq i t (subst T (at i) h))
-
-size-one-i : (w a j : ℕ) → a < 2 ^ w → j < w → T (has a j) → ((i : ℕ) → T (has a i) → i ≡ j) → size w a ≡ 1
-size-one-i w a j l k h u =
-    let at : (i : ℕ) → i < w → has a i ≡ has (single j) i = λ i m.
-    bool-ext (has a i) (eqb i j) (λ g. of-true (eq-eqb i j (u i g))) (λ g. subst (λ (x : ℕ). T (has a x)) (sym (eqb→eq i j g)) h) ∙ sym (has-single j i) in
-    ap (size w) (ext w l (single-lt w j k) at) ∙ size-single w j k
 
 -- ---- consistency in parts
 

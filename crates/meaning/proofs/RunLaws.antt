@@ -1,9 +1,9 @@
 -- Laws of readings: every running reading stays 1 to its delay; the rounds of a run. Assumes nothing.
 use mathlib.Core.Path.{_≡_, refl, sym, ap, _∙_, subst}
 use mathlib.Core.Logic.{_⊎_, inl, inr}
-use mathlib.Core.Bool.{Bool, true, false, not, _&&_, _||_, cond}
+use mathlib.Core.Bool.{Bool, true, false, _&&_, cond}
 use mathlib.Core.List.{List, [], _∷_}
-use Prim.Native.Nat.{ℕ, zero, suc, _+_, _-_, _*_, _≤_, _<_, zero-le}
+use Prim.Native.Nat.{ℕ, _-_, _*_, _≤_, _<_, zero-le}
 use native.Mathlib.Nat.{zero-add, mul-suc, lt-of-lt-of-le}
 use native.Mathlib.Omega.{arith}
 use lib.Dec.{T, eqb, ltb, ltb→lt}
@@ -13,7 +13,7 @@ use Rattle.sets.specs.Sets.{has}
 use Rattle.sets.proofs.Tests.{is-true, is-false, and-r, and-i}
 use Rattle.sets.proofs.Membership.{has-none}
 use Rattle.sets.proofs.Those.{has-those}
-use Rattle.meaning.specs.Sheet.{nOf, kOf, tOf, source}
+use Rattle.meaning.specs.Sheet.{kOf, tOf, source}
 use Rattle.meaning.specs.Reaction.{TickSets, isDelay, delay, isTimer, running}
 use Rattle.meaning.specs.Tick.{Tick, tick, fiveWords}
 use Rattle.meaning.specs.Run.{State, reading, dueTimers, nextReadings, Ticks, stops, tickThen, inputForeign}

@@ -1,21 +1,21 @@
 -- What a sheet that is refused by none of 1 to 6 satisfies. Assumes nothing.
-use mathlib.Core.Path.{_≡_, refl, sym, ap, _∙_, subst}
+use mathlib.Core.Path.{_≡_, refl, subst}
 use mathlib.Core.Logic.{_⊎_, inl, inr}
-use mathlib.Core.Bool.{Bool, true, false, not, _&&_, _||_, cond}
+use mathlib.Core.Bool.{Bool, true, false, not, _&&_, cond}
 use mathlib.Core.List.{List, [], _∷_}
-use Prim.Native.Nat.{ℕ, zero, suc, _+_, _≤_, _<_, zero-le}
-use native.Mathlib.Nat.{le-refl, le-trans, le-of-eq, lt-of-le-of-lt}
+use Prim.Native.Nat.{ℕ, zero, suc, _≤_, _<_, zero-le}
+use native.Mathlib.Nat.{le-trans, le-of-eq, lt-of-le-of-lt}
 use native.Mathlib.Omega.{arith}
-use lib.Dec.{T, eqb, leb, ltb, eqb→eq, eqb-refl, ltb→lt, leb→le, T-not}
+use lib.Dec.{T, eqb, ltb, eqb→eq, eqb-refl, ltb→lt, leb→le, T-not}
 use lib.Arith.{lt-of-le-ne}
 use lib.ListN.{length}
-use borrow.Author.Tests.{eqb-true, eqb-false, not-false}
-use Rattle.sets.specs.Sets.{some, every}
+use borrow.Author.Tests.{not-false}
+use Rattle.sets.specs.Sets.{every}
 use Rattle.sets.proofs.Tests.{of-true, and-l, and-r, or-e}
 use Rattle.sets.proofs.Facts.{every-e}
-use Rattle.meaning.specs.Sheet.{nOf, kOf, tOf, kind, parent, source, target, endBefore, termCount, containsIn, contains, strictlyContains}
+use Rattle.meaning.specs.Sheet.{nOf, kOf, tOf, kind, parent, source, endBefore, termCount, containsIn, contains, strictlyContains}
 use Rattle.meaning.specs.Check.{headOk, modeOk, modesOk, pairOk, pairsOk, endOk, endsOk, termOk, termsOk, distinctOk, sheetRefusal}
-use Rattle.meaning.proofs.ListLaws.{Holds, allOf-e, Off, firstOf-off}
+use Rattle.meaning.proofs.ListLaws.{allOf-e, firstOf-off}
 
 not-off : (b : Bool) → not b ≡ false → T b
 not-off b e = of-true (not-false b e)

@@ -1,6 +1,5 @@
 -- A tick of the table's run is a tick of the sheet. Assumes nothing.
 use mathlib.Core.Path.{_≡_, refl, sym, ap, ap₂, _∙_, subst}
-use mathlib.Core.Logic.{_⊎_, inl, inr}
 use mathlib.Core.Bool.{Bool, true, false, not, _&&_, cond}
 use mathlib.Core.List.{List, [], _∷_, _++_}
 use Prim.Native.Nat.{ℕ, suc, _+_, _-_, _*_, _/_, _%_, _^_, _≤_, _<_}
@@ -10,7 +9,7 @@ use lib.Dec.{T, eqb, leb, ltb, eqb→eq, leb→le, leb·suc-suc}
 use lib.Arith.{digits-lt, digits-div, digits-mod}
 use lib.Pow.{pow-add}
 use lib.ListN.{length, getD}
-use borrow.Author.Tests.{eqb-true, eq-eqb, leb-false, lt-ltb}
+use borrow.Author.Tests.{eq-eqb, leb-false, lt-ltb}
 use Rattle.sets.specs.Sets.{has, members, size, someIn}
 use Rattle.sets.proofs.Tests.{is-true, is-false, and-l, and-r, cond-ext}
 use Rattle.sets.proofs.Facts.{someIn-e}

@@ -1,21 +1,20 @@
 -- The table of a walk that is not refused has a sound layout, and the states of its runs are not refused. Assumes nothing.
 use mathlib.Core.Path.{_≡_, refl, sym, ap, ap₂, _∙_, subst}
 use mathlib.Core.Bool.{Bool, true, false, not, _&&_, _||_, cond}
-use mathlib.Core.List.{List, [], _∷_}
+use mathlib.Core.List.{List, _∷_}
 use Prim.Native.Nat.{ℕ, zero, suc, _+_, _*_, _^_, _≤_, _<_, zero-le}
-use native.Mathlib.Nat.{le-refl, le-trans, le-of-eq, not-suc-le-zero, le-of-suc-le-suc, suc-ne-zero}
+use native.Mathlib.Nat.{le-refl, le-trans, le-of-eq, le-of-suc-le-suc, suc-ne-zero}
 use native.Mathlib.Omega.{arith}
-use lib.Dec.{T, eqb, leb, ltb, eqb→eq, eqb-refl, leb→le, le→leb, lt→ltb, not-T, lit<}
+use lib.Dec.{T, eqb, leb, ltb, eqb→eq, le→leb, lt→ltb, not-T, lit<}
 use lib.ListN.{length, getD}
 use borrow.Author.Tests.{eqb-true, eqb-false, eq-eqb, ne-eqb}
 use Rattle.sets.specs.Sets.{has, size, every}
-use Rattle.sets.proofs.Tests.{is-false, of-true, and-i, or-l, or-r}
+use Rattle.sets.proofs.Tests.{of-true, and-i, or-l, or-r}
 use Rattle.sets.proofs.Facts.{every-i, everyIn-i}
-use Rattle.sets.proofs.Membership.{has-none, setOf-lt}
-use Rattle.sets.proofs.Members.{members-none, empty}
+use Rattle.sets.proofs.Membership.{has-none}
+use Rattle.sets.proofs.Members.{members-none}
 use Rattle.meaning.specs.Lists.{isIn, place}
-use Rattle.meaning.specs.Sheet.{kOf, tOf, source}
-use Rattle.meaning.specs.Check.{headOk}
+use Rattle.meaning.specs.Sheet.{tOf, source}
 use Rattle.meaning.specs.Reaction.{isTimer, delay, running}
 use Rattle.meaning.specs.Run.{State, reading, isFresh, readingsOk}
 use Rattle.meaning.specs.Table.{wordIn, kIn, tIn, bIn, sourceIn, delayIn, offsetIn, lengthIn, endBeforeIn, maskIn, timersIn, cellsIn, cellWord, timerOk, blockOk, tableOk}

@@ -3,18 +3,16 @@ use mathlib.Core.Path.{_≡_, refl, sym, ap, ap₂, _∙_, subst}
 use mathlib.Core.Logic.{_⊎_, inl, inr}
 use mathlib.Core.Bool.{Bool, true, false, not, _&&_, _||_, cond, or-true, or-false, and-false, and-true}
 use mathlib.Core.List.{List}
-use Prim.Native.Nat.{ℕ, zero, suc, _-_, _≤_, _<_, zero-le}
+use Prim.Native.Nat.{ℕ, zero, suc, _-_, _<_}
 use native.Mathlib.Nat.{zero-add, pos-of-ne-zero, lt-of-lt-of-le}
-use native.Mathlib.Omega.{arith}
 use lib.Dec.{T, eqb, ltb, lt→ltb}
 use lib.ListN.{getD}
-use borrow.Author.Tests.{eqb-false, ne-eqb}
-use Rattle.sets.specs.Sets.{has, setOf, single}
+use borrow.Author.Tests.{eqb-false}
+use Rattle.sets.specs.Sets.{has, single}
 use Rattle.sets.proofs.Tests.{is-true, is-false, of-true, and-l, and-i, or-e, cond-ext}
 use Rattle.sets.proofs.Membership.{has-none, setOf-same}
 use Rattle.meaning.specs.Lists.{rowFrom}
 use Rattle.meaning.specs.Sheet.{tOf, source}
-use Rattle.meaning.specs.Check.{sheetRefusal}
 use Rattle.meaning.specs.Hierarchy.{complete}
 use Rattle.meaning.specs.Reaction.{TickSets, isDelay, delay, isTimer, running, alternative, isDue, trigger, triggered, eligible, ambiguous, restless, exiting, entering, afterRound}
 use Rattle.meaning.specs.Tick.{Tick, begin, chosen, roundsFrom, tick}
@@ -25,7 +23,7 @@ use Rattle.meaning.specs.Promises.{InWords}
 use Rattle.meaning.proofs.ListLaws.{rowFrom-at, rowFrom-ext}
 use Rattle.meaning.proofs.SheetLaws.{Sound, sound, t-le}
 use Rattle.meaning.proofs.TickLaws.{modes-after, entered-after, Runs, running-e, running-i}
-use Rattle.meaning.proofs.RunLaws.{due-at, delay-pos}
+use Rattle.meaning.proofs.RunLaws.{due-at}
 
 module _ (s : List ℕ) (sd : Sound s) (d i : ℕ) (low : ℕ → ℕ) where
   -- a running timer reads its delay if its source was entered in this tick, else low; and it is in d where low is 0

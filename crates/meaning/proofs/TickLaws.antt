@@ -2,19 +2,19 @@
 use mathlib.Core.Path.{_≡_, refl, sym, ap, _∙_, subst}
 use mathlib.Core.Logic.{_⊎_, inl, inr}
 use mathlib.Core.Bool.{Bool, true, false, not, _&&_, _||_, cond}
-use mathlib.Core.List.{List, [], _∷_}
+use mathlib.Core.List.{List}
 use Prim.Native.Nat.{ℕ, zero, suc, _+_, _^_, _≤_, _<_, zero-le}
-use native.Mathlib.Nat.{le-refl, le-trans, lt-of-lt-of-le, lt-of-le-of-lt, not-suc-le-zero, le-of-suc-le-suc, eq-zero-or-pos, add-suc}
+use native.Mathlib.Nat.{le-refl, le-trans, lt-of-lt-of-le, lt-of-le-of-lt, not-suc-le-zero, le-of-suc-le-suc, eq-zero-or-pos}
 use native.Mathlib.Omega.{arith}
 use lib.Dec.{T, eqb, ltb, lt→ltb}
 use borrow.Author.Tests.{eqb-true, eqb-false}
-use Rattle.sets.specs.Sets.{has, union, minus, single, those, size, someIn}
+use Rattle.sets.specs.Sets.{has, minus, single, size, someIn}
 use Rattle.sets.proofs.Tests.{is-false, of-true, and-l, and-r, and-i, or-e, or-l, or-r}
 use Rattle.sets.proofs.Membership.{has-none, has-union, has-minus, setOf-lt}
 use Rattle.sets.proofs.Facts.{setOf-e, setOf-i, those-e, those-i, someIn-e, someIn-i, size-le, size-lt}
 use Rattle.sets.proofs.Those.{those-lt}
 use Rattle.sets.proofs.Members.{empty}
-use Rattle.meaning.specs.Sheet.{nOf, tOf, source, strictlyContains}
+use Rattle.meaning.specs.Sheet.{tOf, source, strictlyContains}
 use Rattle.meaning.specs.Hierarchy.{complete}
 use Rattle.meaning.specs.Reaction.{TickSets, isDelay, delay, isTimer, running, alternative, isDue, trigger, triggered, conflict, givesWay, eligible, ambiguous, restless, exiting, entering, afterRound}
 use Rattle.meaning.specs.Tick.{Tick, begin, chosen, roundsFrom, tick}

@@ -10,7 +10,7 @@ use Rattle.meaning.specs.Check.{headOk, modeOk, modesOk, pairOk, pairsOk
 use Rattle.meaning.specs.Hierarchy.{children, memberOk, consistent, brings, completedIn, complete, childIn, childHolding, exits, enters}
 use Rattle.meaning.specs.Reaction.{isDelay, delay, isTimer, running, holds, alternativeFrom, alternative, isDue, trigger, triggered, conflict, givesWay, eligible, ambiguous, restless, exiting, entering, afterRound}
 use Rattle.meaning.specs.Tick.{fiveWords, begin, chosen, roundsFrom, tick}
-use Rattle.meaning.specs.Run.{State, reading, powerOn, isFresh, readingsOk, dueTimers, nextReadings, stops, tickThen, outputShort, inputForeign, ran}
+use Rattle.meaning.specs.Run.{reading, powerOn, isFresh, readingsOk, dueTimers, nextReadings, stops, tickThen, outputShort, inputForeign, ran}
 use Rattle.meaning.specs.SheetRun.{stateOk, tickFrom, stateAfter, sheetTicks, sheetRun}
 use Rattle.meaning.specs.Table.{wordIn, kIn, tIn, bIn, sourceIn, delayIn, offsetIn, lengthIn, endBeforeIn, maskIn, timersIn, cellsIn, cellWord, timerOk, blockOk, tableOk}
 use Rattle.meaning.specs.TableRun.{dueNumber, tableStateOk, cellOf, stateAfterCell, isStale, tableTicks, tableRun}

@@ -2,7 +2,7 @@
 -- 1 to 6. Assumes nothing.
 use mathlib.Core.Path.{_≡_}
 use mathlib.Core.Logic.{_⊎_}
-use mathlib.Core.Bool.{Bool, true, false}
+use mathlib.Core.Bool.{false}
 use mathlib.Core.List.{List, []}
 use Prim.Native.Nat.{ℕ, suc, _+_, _*_, _≤_, _<_}
 use lib.Dec.{T}
@@ -12,7 +12,7 @@ use Rattle.meaning.specs.Lists.{isIn}
 use Rattle.meaning.specs.Sheet.{nOf, tOf, parent, contains, containsIn, meetingFrom}
 use Rattle.meaning.specs.Check.{sheetRefusal}
 use Rattle.meaning.specs.Hierarchy.{consistent, completedIn, childIn}
-use Rattle.meaning.specs.Reaction.{TickSets, ambiguous}
+use Rattle.meaning.specs.Reaction.{ambiguous}
 use Rattle.meaning.specs.Tick.{begin, chosen, roundsFrom, tick}
 use Rattle.meaning.specs.Run.{State}
 use Rattle.meaning.specs.SheetRun.{tickFrom, stateAfter, sheetTicks}

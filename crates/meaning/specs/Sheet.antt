@@ -1,10 +1,9 @@
 -- The sheet: a list of 32-bit words. Its layout, containment and the meeting mode, in the order of document 01. Assumes nothing.
-use mathlib.Core.Bool.{Bool, true, false, not, _&&_, _||_, cond}
+use mathlib.Core.Bool.{Bool, not, _&&_, _||_, cond}
 use mathlib.Core.List.{List}
 use Prim.Native.Nat.{ℕ, zero, suc, _+_, _-_, _*_, _/_}
 use lib.Dec.{eqb, ltb}
 use lib.ListN.{getD}
-use Rattle.sets.specs.Sets.{setOf}
 
 module _ (s : List ℕ) where
   unfoldable pub word : ℕ → ℕ

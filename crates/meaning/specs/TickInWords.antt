@@ -1,6 +1,6 @@
 -- A tick in document 01's own words, with the readings among what a round changes. The promise `InWords` says that it is the
 -- tick of `Tick`. Assumes nothing.
-use mathlib.Core.Bool.{Bool, true, false, not, _||_, cond}
+use mathlib.Core.Bool.{not, _||_, cond}
 use mathlib.Core.List.{List}
 use Prim.Native.Nat.{ℕ, zero, suc, _-_}
 use lib.Dec.{eqb, ltb}

@@ -1,6 +1,6 @@
 -- Demand 3: one statement over a whole list of table runs. Assumes nothing.
 use mathlib.Core.Path.{_≡_}
-use mathlib.Core.Bool.{Bool, true, false, cond}
+use mathlib.Core.Bool.{cond}
 use mathlib.Core.List.{List, [], _∷_, map, flatten}
 use Prim.Native.Nat.{ℕ, zero, suc, _*_, _<_}
 use lib.Dec.{T, ltb}
@@ -11,7 +11,7 @@ use Rattle.meaning.specs.Run.{State, powerOn, outputShort, inputForeign,
 use Rattle.meaning.specs.SheetRun.{sheetTicks}
 use Rattle.meaning.specs.Table.{bIn, maskIn}
 use Rattle.meaning.specs.TableRun.{tableRun}
-use Rattle.meaning.specs.Compile.{Compiled, compile}
+use Rattle.meaning.specs.Compile.{compile}
 
 -- one call of the table run: its input list and its output words as they stand at the call
 pub record Call : Type 0 where

@@ -1,8 +1,9 @@
--- What a set or a bounded test says of a number, and how it is shown, as facts. Each is over the width w. Assumes nothing.
-use mathlib.Core.Path.{_≡_, refl, sym, ap, _∙_, subst}
+-- What a set or a bounded test says of a number, and how it is shown, as facts: a name that ends in -e takes a fact apart, one in -i shows it.
+-- Each is over the width w. Assumes nothing.
+use mathlib.Core.Path.{_≡_, sym, subst}
 use mathlib.Core.Logic.{_⊎_, inl, inr}
 use mathlib.Core.Bool.{Bool, true, false, not, _&&_, _||_}
-use mathlib.Core.List.{List, [], _∷_}
+use mathlib.Core.List.{List}
 use Prim.Native.Nat.{ℕ, zero, suc, _+_, _^_, _≤_, _<_, zero-le}
 use native.Mathlib.Nat.{le-refl, not-suc-le-zero, le-of-suc-le-suc, eq-or-lt-of-le, lt-of-not-le}
 use native.Mathlib.Decide.{decLe}
@@ -10,16 +11,18 @@ use native.Mathlib.Omega.{arith}
 use lib.Dec.{T}
 use lib.ListN.{length}
 use Rattle.sets.specs.Sets.{has, setOf, those, membersFrom, members, prepend, size, some, every, someIn, everyIn}
-use Rattle.sets.proofs.Tests.{is-true, is-false, of-true, and-l, and-r, and-i, or-e, or-l, or-r, implied, implies}
-use Rattle.sets.proofs.Membership.{has-above, has-setOf, setOf-lt}
+use Rattle.sets.proofs.Tests.{of-false, and-l, and-r, and-i, or-e, or-l, or-r, implied, implies}
+use Rattle.sets.proofs.Membership.{has-above, has-setOf, setOf-lt, has-those, those-lt}
 
 -- a member of a set of w bits is below w
 pub has-lt : (w s i : ℕ) → s < 2 ^ w → T (has s i) → i < w
 has-lt w s i h k = go (decLe w i)
   where
     go : Dec (w ≤ i) → i < w
-    go (yes q) = absurd (subst T (has-above w s i h q) k)
+    go (yes q) = absurd (of-false (has-above w s i h q) k)
     go (no q) = lt-of-not-le q
+
+-- ---- sets by a test
 
 pub setOf-e : (w : ℕ) (p : ℕ → Bool) (i : ℕ) → T (has (setOf w p) i) → (i < w) × T (p i)
 setOf-e w p i h =
@@ -30,14 +33,13 @@ pub setOf-i : (w : ℕ) (p : ℕ → Bool) (i : ℕ) → i < w → T (p i) → T
 setOf-i w p i l h = subst T (sym (has-setOf w p i l)) h
 
 pub those-e : (w s : ℕ) (p : ℕ → Bool) (i : ℕ) → T (has (those w s p) i) → (i < w) × T (has s i) × T (p i)
-unfolding those
 those-e w s p i h =
-    let r = setOf-e w (λ j. has s j && p j) i h in
-    (r .0, and-l (has s i) (p i) (r .1), and-r (has s i) (p i) (r .1))
+    let l = has-lt w (those w s p) i (those-lt w s p) h in
+    let b = subst T (has-those w s p i l) h in
+    (l, and-l (has s i) (p i) b, and-r (has s i) (p i) b)
 
 pub those-i : (w s : ℕ) (p : ℕ → Bool) (i : ℕ) → i < w → T (has s i) → T (p i) → T (has (those w s p) i)
-unfolding those
-those-i w s p i l h k = setOf-i w (λ j. has s j && p j) i l (and-i (has s i) (p i) h k)
+those-i w s p i l h k = subst T (sym (has-those w s p i l)) (and-i (has s i) (p i) h k)
 
 -- ---- bounded tests
 

@@ -2,8 +2,9 @@
 use mathlib.Core.Path.{_≡_, refl, sym, ap, ap₂, _∙_, subst}
 use mathlib.Core.Bool.{Bool, true, false, not, _&&_, and-true, and-false}
 use mathlib.Core.List.{List, [], _∷_}
-use Prim.Native.Nat.{ℕ, zero, suc, _+_, _-_, _*_, _/_, _%_, _^_, _≤_, _<_, zero-le, suc-le-suc}
-use native.Mathlib.Nat.{mod-lt, zero-lt-suc, not-suc-le-zero, le-of-suc-le-suc, le-refl, lt-of-le-of-lt, lt-trans, pos-of-ne-zero, pow-suc, add-zero, zero-add}
+use mathlib.Core.Logic.{⊎-elim}
+use Prim.Native.Nat.{ℕ, zero, suc, _+_, _-_, _/_, _%_, _^_, _≤_, _<_, zero-le, suc-le-suc}
+use native.Mathlib.Nat.{mod-lt, zero-lt-suc, not-suc-le-zero, le-of-suc-le-suc, le-refl, lt-of-le-of-lt, lt-trans, pos-of-ne-zero, eq-zero-or-pos, pow-suc, add-zero, zero-add}
 use native.Mathlib.Numerals.{add-one}
 use native.Mathlib.Decide.{ℕ-discrete}
 use native.Mathlib.Omega.{arith}
@@ -12,10 +13,10 @@ use lib.Arith.{lt-one}
 use lib.Pow.{pow-pos}
 use lib.Bits.{bitAnd, and-step, and-le-l, and-le-r, and-self}
 use lib.ListN.{length, drop, getD}
-use lib.Count.{ones, ones-step, trailingZeros, under}
+use lib.Count.{ones, ones-step, trailingZeros, trailing-of-zero, under}
 use borrow.Author.Tests.{eq-eqb, ne-eqb}
-use Rattle.sets.specs.Sets.{has, minus, single, members, membersFrom, prepend, size, lowest}
-use Rattle.sets.proofs.Membership.{has-0, has-suc, has-none, has-minus, has-single, has-and, ext, single-lt, and-not-bit}
+use Rattle.sets.specs.Sets.{has, meet, minus, single, members, membersFrom, prepend, size, lowest}
+use Rattle.sets.proofs.Membership.{has-0, has-suc, half-lt, has-none, has-minus, has-single, has-meet, ext, single-lt}
 
 -- t is the lowest member of s, and below w
 pub record Lowest (w s t : ℕ) : Type 0 where
@@ -27,9 +28,6 @@ pub record Lowest (w s t : ℕ) : Type 0 where
 unfoldable pub fold : {A : Type 0} → (A → ℕ → A) → A → List ℕ → A
 fold f z [] = z
 fold f z (i ∷ l) = fold f (f z i) l
-
-half-lt : {a : ℕ} (k : ℕ) → a < 2 ^ suc k → a / 2 < 2 ^ k
-half-lt k h = omega (arith, pow-suc 2 k)
 
 -- ---- the count
 
@@ -61,27 +59,7 @@ ones-size (suc w) s h =
     ∙ sym (length-digit (s % 2) 0 (membersFrom 1 w s) (mod-lt s (zero-lt-suc 1)))
     ∙ ap (λ (t : Bool). length (prepend t 0 (membersFrom 1 w s))) (sym (has-0 s))
 
--- ---- the lowest member
-
-lowest-digit : (w s t d : ℕ) → s % 2 ≡ d → 0 < s → (0 < s / 2 → Lowest w (s / 2) t) → Lowest (suc w) s (under d t)
-lowest-digit w s t zero e p ih =
-    let r : Lowest w (s / 2) t = ih (omega arith) in
-    record { small = suc-le-suc (r .small); member = has-suc s t ∙ r .member; least = below r }
-  where
-    below : Lowest w (s / 2) t → (j : ℕ) → j < suc t → has s j ≡ false
-    below r zero l = has-0 s ∙ ap (λ (x : ℕ). eqb x 1) e
-    below r (suc j) l = has-suc s j ∙ r .least j (le-of-suc-le-suc l)
-lowest-digit w s t (suc d) e p ih =
-    let one : s % 2 ≡ 1 = omega (arith, mod-lt s (zero-lt-suc 1)) in
-    record { small = zero-lt-suc w; member = has-0 s ∙ ap (λ (x : ℕ). eqb x 1) one; least = λ j l. absurd (not-suc-le-zero l) }
-
--- `trailing_zeros` of a set that is not empty is its lowest member
-pub trailing-lowest : (w s : ℕ) → s < 2 ^ w → 0 < s → Lowest w s (trailingZeros w s)
-unfolding trailingZeros
-trailing-lowest zero s h p = absurd (omega arith)
-trailing-lowest (suc w) s h p = lowest-digit w s (trailingZeros w (s / 2)) (s % 2) refl p (trailing-lowest w (s / 2) (half-lt w h))
-
--- ---- the set without its lowest member
+-- ---- the lowest member first, and then the set without it
 
 prepend-true : (t : Bool) (i : ℕ) (l : List ℕ) → t ≡ true → prepend t i l ≡ i ∷ l
 unfolding prepend
@@ -124,9 +102,9 @@ without-other s t j h =
     has-minus s (single t) j ∙ ap (λ (x : Bool). has s j && not x) (has-single t j ∙ ne-eqb j t h) ∙ and-true (has s j)
 
 -- the members are the lowest one, and then those of the set without it
-pub members-lowest : (w s t : ℕ) → Lowest w s t → members w s ≡ t ∷ members w (minus s (single t))
+pub members-lowest : {w s t : ℕ} → Lowest w s t → members w s ≡ t ∷ members w (minus s (single t))
 unfolding members
-members-lowest w s t h =
+members-lowest {w} {s} {t} h =
     let z : 0 + t ≡ t = zero-add t in
     subst (λ (k : ℕ). membersFrom 0 w s ≡ k ∷ membersFrom 0 w (minus s (single t))) z
     (split-at t w 0 s (minus s (single t)) (h .small) (ap (has s) z ∙ h .member) (λ j l. h .least j (omega arith)) (ap (has (minus s (single t))) z ∙ without-it s t)
@@ -140,67 +118,88 @@ members-none w = go w 0
     go zero i = refl
     go (suc n) i = prepend-false (has 0 i) i (membersFrom (suc i) n 0) (has-none i) ∙ go n (suc i)
 
--- ---- a set that is empty, and one that is not
+-- ---- the lowest member
+
+-- it is the first of the members
+pub lowest-unique : {w s t : ℕ} → Lowest w s t → lowest w s ≡ t
+unfolding lowest
+lowest-unique l = rw (members-lowest l)
+
+pub lowest-none : (w : ℕ) → lowest w 0 ≡ w
+unfolding lowest
+lowest-none w = rw (members-none w)
+
+under-lowest : (w s t d : ℕ) → s % 2 ≡ d → 0 < s → (0 < s / 2 → Lowest w (s / 2) t) → Lowest (suc w) s (under d t)
+under-lowest w s t zero e p ih =
+    let r : Lowest w (s / 2) t = ih (omega arith) in
+    record { small = suc-le-suc (r .small); member = has-suc s t ∙ r .member; least = below r }
+  where
+    below : Lowest w (s / 2) t → (j : ℕ) → j < suc t → has s j ≡ false
+    below r zero l = has-0 s ∙ ap (λ (x : ℕ). eqb x 1) e
+    below r (suc j) l = has-suc s j ∙ r .least j (le-of-suc-le-suc l)
+under-lowest w s t (suc d) e p ih =
+    let one : s % 2 ≡ 1 = omega (arith, mod-lt s (zero-lt-suc 1)) in
+    record { small = zero-lt-suc w; member = has-0 s ∙ ap (λ (x : ℕ). eqb x 1) one; least = λ j l. absurd (not-suc-le-zero l) }
+
+trailing-zeros-least : (w s : ℕ) → s < 2 ^ w → 0 < s → Lowest w s (trailingZeros w s)
+unfolding trailingZeros
+trailing-zeros-least zero s h p = absurd (omega arith)
+trailing-zeros-least (suc w) s h p = under-lowest w s (trailingZeros w (s / 2)) (s % 2) refl p (trailing-zeros-least w (s / 2) (half-lt w h))
+
+-- `trailing_zeros` is the lowest member, of the empty set too
+pub trailing-zeros-lowest : (w s : ℕ) → s < 2 ^ w → trailingZeros w s ≡ lowest w s
+trailing-zeros-lowest w s h =
+    ⊎-elim
+    (λ z. ap (trailingZeros w) z ∙ trailing-of-zero w ∙ sym (ap (lowest w) z ∙ lowest-none w))
+    (λ p. sym (lowest-unique (trailing-zeros-least w s h p)))
+    (eq-zero-or-pos s)
+
+-- a set that is not empty has a lowest member
+pub lowest-member : (w s : ℕ) → s < 2 ^ w → 0 < s → Lowest w s (lowest w s)
+lowest-member w s h p = subst (Lowest w s) (trailing-zeros-lowest w s h) (trailing-zeros-least w s h p)
+
+-- ---- a set that is empty, and a set without one of its members
 
 pub empty : (w : ℕ) {s : ℕ} → s < 2 ^ w → ((i : ℕ) → i < w → has s i ≡ false) → s ≡ 0
 empty w h e = ext w h (pow-pos w) (λ i l. e i l ∙ sym (has-none i))
 
--- a member t of s: the two have t in common, so that s without t is s less 2 ^ t
-pub and-member : (s t : ℕ) → has s t ≡ true → bitAnd s (single t) ≡ single t
-and-member s t e =
+meet-member : (s t : ℕ) → has s t ≡ true → meet s (single t) ≡ single t
+meet-member s t e =
     ext (suc t) (lt-of-le-of-lt (and-le-r s (single t)) (single-lt (suc t) t (le-refl (suc t)))) (single-lt (suc t) t (le-refl (suc t)))
-    (λ i l. has-and s (single t) i ∙ at i (ℕ-discrete i t))
+    (λ i l. has-meet s (single t) i ∙ at i (ℕ-discrete i t))
   where
     at : (i : ℕ) → Dec (i ≡ t) → (has s i && has (single t) i) ≡ has (single t) i
     at i (yes q) = ap (λ (x : Bool). x && has (single t) i) (ap (has s) q ∙ e)
     at i (no q) = ap (λ (x : Bool). has s i && x) (has-single t i ∙ ne-eqb i t q) ∙ and-false (has s i) ∙ sym (has-single t i ∙ ne-eqb i t q)
 
-and-stranger : (s t : ℕ) → has s t ≡ false → bitAnd s (single t) ≡ 0
-and-stranger s t e =
-    empty (suc t) (lt-of-le-of-lt (and-le-r s (single t)) (single-lt (suc t) t (le-refl (suc t))))
-    (λ i l. has-and s (single t) i ∙ at i (ℕ-discrete i t))
-  where
-    at : (i : ℕ) → Dec (i ≡ t) → (has s i && has (single t) i) ≡ false
-    at i (yes q) = ap (λ (x : Bool). x && has (single t) i) (ap (has s) q ∙ e)
-    at i (no q) = ap (λ (x : Bool). has s i && x) (has-single t i ∙ ne-eqb i t q) ∙ and-false (has s i)
-
--- `s & 1 << t != 0`
-pub test-bit : (s t : ℕ) → not (eqb (bitAnd s (single t)) 0) ≡ has s t
-test-bit s t = go (has s t) refl
-  where
-    go : (b : Bool) → has s t ≡ b → not (eqb (bitAnd s (single t)) 0) ≡ b
-    go true e = ap not (ap (λ (x : ℕ). eqb x 0) (and-member s t e) ∙ ne-eqb (2 ^ t) 0 (λ q. omega (arith, pow-pos t)))
-    go false e = ap not (ap (λ (x : ℕ). eqb x 0) (and-stranger s t e))
-
+-- s without its member t is s less 2 ^ t
 pub minus-member : (s t : ℕ) → has s t ≡ true → minus s (single t) + 2 ^ t ≡ s
 unfolding minus
-minus-member s t e = omega (arith, and-member s t e, and-le-l s (2 ^ t))
-
--- a loop that takes a member out each turn ends
-pub minus-less : (s t : ℕ) → has s t ≡ true → minus s (single t) < s
-minus-less s t e = omega (arith, minus-member s t e, pow-pos t)
+minus-member s t e = omega (arith, meet-member s t e, and-le-l s (2 ^ t))
 
 -- `s & (s - 1)` takes the lowest member out
-clear-digit : (s t d : ℕ) → s % 2 ≡ d → 0 < s → (0 < s / 2 → bitAnd (s / 2) (s / 2 - 1) + 2 ^ t ≡ s / 2) → bitAnd s (s - 1) + 2 ^ under d t ≡ s
-clear-digit s t zero e p ih =
+under-sum : (s t d : ℕ) → s % 2 ≡ d → 0 < s → (0 < s / 2 → bitAnd (s / 2) (s / 2 - 1) + 2 ^ t ≡ s / 2) → bitAnd s (s - 1) + 2 ^ under d t ≡ s
+under-sum s t zero e p ih =
     let h : (s - 1) / 2 ≡ s / 2 - 1 = omega arith in
     let m : bitAnd (s / 2) ((s - 1) / 2) ≡ bitAnd (s / 2) (s / 2 - 1) = ap (bitAnd (s / 2)) h in
     let q : bitAnd (s / 2) (s / 2 - 1) + 2 ^ t ≡ s / 2 = ih (omega arith) in
     omega (arith, and-step s (s - 1), pow-suc 2 t)
-clear-digit s t (suc d) e p ih =
+under-sum s t (suc d) e p ih =
     let h : (s - 1) / 2 ≡ s / 2 = omega (arith, mod-lt s (zero-lt-suc 1)) in
     let m : bitAnd (s / 2) ((s - 1) / 2) ≡ s / 2 = ap (bitAnd (s / 2)) h ∙ and-self (s / 2) in
     let o : s % 2 ≡ 1 = omega (arith, mod-lt s (zero-lt-suc 1)) in
     let z : (s - 1) % 2 ≡ 0 = omega arith in
     omega (arith, and-step s (s - 1))
 
-clear-sum : (w s : ℕ) → s < 2 ^ w → 0 < s → bitAnd s (s - 1) + 2 ^ trailingZeros w s ≡ s
+trailing-zeros-sum : (w s : ℕ) → s < 2 ^ w → 0 < s → bitAnd s (s - 1) + 2 ^ trailingZeros w s ≡ s
 unfolding trailingZeros
-clear-sum zero s h p = absurd (omega arith)
-clear-sum (suc w) s h p = clear-digit s (trailingZeros w (s / 2)) (s % 2) refl p (clear-sum w (s / 2) (half-lt w h))
+trailing-zeros-sum zero s h p = absurd (omega arith)
+trailing-zeros-sum (suc w) s h p = under-sum s (trailingZeros w (s / 2)) (s % 2) refl p (trailing-zeros-sum w (s / 2) (half-lt w h))
 
-pub clear-lowest : (w s : ℕ) → s < 2 ^ w → 0 < s → bitAnd s (s - 1) ≡ minus s (single (trailingZeros w s))
-clear-lowest w s h p = omega (arith, clear-sum w s h p, minus-member s (trailingZeros w s) (trailing-lowest w s h p .member))
+pub without-lowest : (w s : ℕ) → s < 2 ^ w → 0 < s → bitAnd s (s - 1) ≡ minus s (single (lowest w s))
+without-lowest w s h p =
+    let e : 2 ^ trailingZeros w s ≡ 2 ^ lowest w s = ap (λ (t : ℕ). 2 ^ t) (trailing-zeros-lowest w s h) in
+    omega (arith, trailing-zeros-sum w s h p, minus-member s (lowest w s) (lowest-member w s h p .member))
 
 -- ---- a loop over the members, lowest first
 
@@ -212,42 +211,29 @@ pub record Turn (w s t r : ℕ) : Type 0 where
   pub less : r < s
   pub fits : r < 2 ^ w
 
-turn-of : (w s t r : ℕ) → s < 2 ^ w → 0 < s → Lowest w s t → r ≡ minus s (single t) → Turn w s t r
-turn-of w s t r h p l e =
-    let d : r < s = omega (arith, minus-less s t (l .member)) in
-    record { filled = p; lowest = l; removed = e; less = d; fits = lt-trans d h }
-
--- t is `trailing_zeros(s)`, and r is `s & (s - 1)`
-abbrev pub TurnDown : ℕ → ℕ → Type 0
-TurnDown w s = Turn w s (trailingZeros w s) (bitAnd s (s - 1))
-
-pub turn-down : (w s : ℕ) → s < 2 ^ w → (s ≡ 0 → ⊥) → TurnDown w s
-turn-down w s h n = let p = pos-of-ne-zero n in turn-of w s (trailingZeros w s) (bitAnd s (s - 1)) h p (trailing-lowest w s h p) (clear-lowest w s h p)
-
--- the same with `s & !(1 << t)` for r
-abbrev pub TurnBit : ℕ → ℕ → Type 0
-TurnBit w s = Turn w s (trailingZeros w s) (bitAnd s (2 ^ w - 1 - 1 * 2 ^ trailingZeros w s % 2 ^ w))
-
-pub turn-bit : (w s : ℕ) → s < 2 ^ w → (s ≡ 0 → ⊥) → TurnBit w s
-turn-bit w s h n =
+-- t is what `lowest` returns for s, and r what `without_lowest` does
+pub turn : (w s : ℕ) {t r : ℕ} → s < 2 ^ w → (s ≡ 0 → ⊥) → t ≡ lowest w s → r ≡ minus s (single (lowest w s)) → Turn w s t r
+turn w s {t} {r} h n e q =
     let p = pos-of-ne-zero n in
-    let l = trailing-lowest w s h p in
-    turn-of w s (trailingZeros w s) (bitAnd s (2 ^ w - 1 - 1 * 2 ^ trailingZeros w s % 2 ^ w)) h p l (and-not-bit w (trailingZeros w s) h (l .small))
+    let l : Lowest w s t = subst (Lowest w s) (sym e) (lowest-member w s h p) in
+    let o : r ≡ minus s (single t) = q ∙ ap (λ (x : ℕ). minus s (single x)) (sym e) in
+    let d : r < s = omega (arith, minus-member s t (l .member), pow-pos t) in
+    record { filled = p; lowest = l; removed = o; less = d; fits = lt-trans d h }
+
+pub members-turn : {w s t r : ℕ} → Turn w s t r → members w s ≡ t ∷ members w r
+members-turn {w} {s} {t} u = members-lowest (u .lowest) ∙ ap (λ (x : ℕ). t ∷ members w x) (sym (u .removed))
 
 -- f at the lowest member, and on with the set without it
 pub fold-turn : {A : Type 0} (f : A → ℕ → A) (z : A) {w s t r : ℕ} → Turn w s t r → fold f (f z t) (members w r) ≡ fold f z (members w s)
 unfolding fold
-fold-turn f z {w} {s} {t} u = ap (λ (x : ℕ). fold f (f z t) (members w x)) (u .removed) ∙ ap (fold f z) (sym (members-lowest w s t (u .lowest)))
+fold-turn f z u = ap (fold f z) (sym (members-turn u))
 
 -- nothing is left to do at the end
 pub fold-done : {A : Type 0} (f : A → ℕ → A) (z : A) (w s : ℕ) → s ≡ 0 → fold f z (members w s) ≡ z
 unfolding fold
 fold-done f z w s e = ap (λ (x : ℕ). fold f z (members w x)) e ∙ ap (fold f z) (members-none w)
 
--- ---- the members by their number: a loop that counts its turns by i keeps `drop i (members w S) ≡ members w s`
-
-pub members-turn : {w s t r : ℕ} → Turn w s t r → members w s ≡ t ∷ members w r
-members-turn {w} {s} {t} u = members-lowest w s t (u .lowest) ∙ ap (λ (x : ℕ). t ∷ members w x) (sym (u .removed))
+-- ---- the members by their number: a loop that counts its turns by i keeps `drop i (members w all) ≡ members w s`
 
 drop-parts : (i : ℕ) (l : List ℕ) (t : ℕ) (m : List ℕ) → drop i l ≡ t ∷ m → (i < length l) × (getD l i 0 ≡ t) × (drop (suc i) l ≡ m)
 drop-parts zero [] t m e = absurd (let z : _≡_ {A = ℕ} 0 1 = cc in omega arith)

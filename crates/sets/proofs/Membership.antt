@@ -1,17 +1,17 @@
 -- Membership of each set operation, and equality by membership. Each law is over the width w. Assumes nothing.
 use mathlib.Core.Path.{_≡_, refl, sym, ap, ap₂, _∙_, subst}
-use mathlib.Core.Bool.{Bool, true, false, not, _&&_, _||_, Bool·beq}
+use mathlib.Core.Bool.{Bool, true, false, not, _&&_, _||_}
 use Prim.Native.Nat.{ℕ, zero, suc, _+_, _-_, _*_, _/_, _%_, _^_, _≤_, _<_, suc-le-suc, min, max}
-use native.Mathlib.Nat.{mod-lt, mod-le, le-refl, lt-of-not-le, zero-add, zero-mul, mod-eq-of-lt, one-mul, lt-of-le-of-lt, eq-or-lt-of-le, zero-lt-suc, not-suc-le-zero, le-of-suc-le-suc, div-div-eq-div-mul, div-one, pow-succ', pow-suc, zero-div}
+use native.Mathlib.Nat.{lt-of-lt-of-le, mod-lt, mod-le, lt-of-not-le, zero-add, zero-mul, mod-eq-of-lt, one-mul, lt-of-le-of-lt, eq-or-lt-of-le, zero-lt-suc, not-suc-le-zero, le-of-suc-le-suc, div-div-eq-div-mul, div-one, pow-succ', pow-suc, zero-div}
 use native.Mathlib.Numerals.{add-one}
 use native.Mathlib.Decide.{decLe}
 use native.Mathlib.Omega.{arith}
 use mathlib.Core.Logic.{⊎-elim}
 use lib.Dec.{eqb, ltb, eqb·zero-suc, eqb·suc-zero, eqb·suc-suc, leb·zero, leb·suc-zero, leb·suc-suc}
 use lib.Arith.{lt-one, digits-lt}
-use lib.Pow.{pow-pos, pow-lt, ones-lt, ones-split, high, split, shr-shr}
-use lib.Bits.{bitAnd, bitOr, bitXor, differ, xor-step, and-step, or-step, and-le-l, or-lt, or-shifted-r, and-mask, block-half, block-odd}
-use Rattle.sets.specs.Sets.{has, union, meet, minus, single, below, digit, setOf}
+use lib.Pow.{pow-pos, pow-mono, pow-lt, ones-lt, ones-split, high, split, shr-shr}
+use lib.Bits.{bitAnd, bitOr, and-step, or-step, and-le-l, or-lt, or-shifted-r, and-mask, block-half, block-odd}
+use Rattle.sets.specs.Sets.{has, union, meet, minus, single, below, digit, setOf, those}
 
 two-pos : 0 < 2
 two-pos = zero-lt-suc 1
@@ -26,7 +26,7 @@ pub has-suc : (s i : ℕ) → has s (suc i) ≡ has (s / 2) i
 unfolding has
 has-suc s i = ap (λ (x : ℕ). eqb (x % 2) 1) (ap (λ (x : ℕ). s / x) (pow-succ' 2 i) ∙ sym (div-div-eq-div-mul s 2 (2 ^ i)))
 
-half-lt : {a : ℕ} (k : ℕ) → a < 2 ^ suc k → a / 2 < 2 ^ k
+pub half-lt : {a : ℕ} (k : ℕ) → a < 2 ^ suc k → a / 2 < 2 ^ k
 half-lt k h = omega (arith, pow-suc 2 k)
 
 -- nothing is in the empty set
@@ -34,7 +34,7 @@ pub has-none : (i : ℕ) → has 0 i ≡ false
 unfolding has
 has-none i = ap (λ (x : ℕ). eqb (x % 2) 1) (zero-div (2 ^ i))
 
--- a mask of w bits has no member from w on
+-- a set of w bits has no member from w on
 pub has-above : (w s i : ℕ) → s < 2 ^ w → w ≤ i → has s i ≡ false
 has-above zero s i h l = ap (λ (x : ℕ). has x i) (lt-one h) ∙ has-none i
 has-above (suc w) s zero h l = absurd (not-suc-le-zero l)
@@ -54,7 +54,7 @@ same-digit x y hx hy =
     x
     hx
 
--- two masks of w bits with the same members are equal
+-- two sets of w bits with the same members are equal
 pub ext : (w : ℕ) {a b : ℕ} → a < 2 ^ w → b < 2 ^ w → ((i : ℕ) → i < w → has a i ≡ has b i) → a ≡ b
 ext zero ha hb e = lt-one ha ∙ sym (lt-one hb)
 ext (suc w) {a} {b} ha hb e =
@@ -62,7 +62,16 @@ ext (suc w) {a} {b} ha hb e =
     let low : a % 2 ≡ b % 2 = same-digit (a % 2) (b % 2) (mod-lt a two-pos) (mod-lt b two-pos) (sym (has-0 a) ∙ e 0 (zero-lt-suc w) ∙ has-0 b) in
     omega arith
 
--- ---- intersection, union, difference: an operation that goes digit by digit has its members by the same table
+lt-two-pow : (x : ℕ) → x < 2 ^ x
+lt-two-pow zero = omega arith
+lt-two-pow (suc x) = omega (arith, pow-suc 2 x, lt-two-pow x)
+
+-- two sets with the same members are equal, however large
+pub same-members : {a b : ℕ} → ((i : ℕ) → has a i ≡ has b i) → a ≡ b
+same-members {a} {b} h =
+    ext (a + b) (lt-of-lt-of-le (lt-two-pow a) (pow-mono (omega arith))) (lt-of-lt-of-le (lt-two-pow b) (pow-mono (omega arith))) (λ i l. h i)
+
+-- ---- union, intersection, difference: an operation that goes digit by digit has its members by the same table
 module _ (op f : ℕ → ℕ → ℕ) (g : Bool → Bool → Bool)
     (step : (a b : ℕ) → op a b ≡ op (a / 2) (b / 2) * 2 + f (a % 2) (b % 2))
     (bound : (x y : ℕ) → x < 2 → y < 2 → f x y < 2)
@@ -86,31 +95,22 @@ table f g p q r s x y hx hy =
     x
     hx
 
-pub has-and : (a b i : ℕ) → has (bitAnd a b) i ≡ (has a i && has b i)
-has-and = has-op bitAnd min _&&_ and-step (λ x y hx hy. omega arith) (table min _&&_ refl refl refl refl)
+pub has-union : (a b i : ℕ) → has (union a b) i ≡ (has a i || has b i)
+has-union = has-op union max _||_ or-step (λ x y hx hy. omega arith) (table max _||_ refl refl refl refl)
 
-pub has-or : (a b i : ℕ) → has (bitOr a b) i ≡ (has a i || has b i)
-has-or = has-op bitOr max _||_ or-step (λ x y hx hy. omega arith) (table max _||_ refl refl refl refl)
-
-unlike : Bool → Bool → Bool
-unlike a b = not (Bool·beq a b)
-
-pub has-xor : (a b i : ℕ) → has (bitXor a b) i ≡ not (Bool·beq (has a i) (has b i))
-unfolding unlike
-has-xor =
-    has-op bitXor differ unlike xor-step
-    (λ x y hx hy. bin (λ (x : ℕ). differ x y < 2) hy (bin (λ (y : ℕ). differ 1 y < 2) (le-refl 2) (zero-lt-suc 1) y hy) x hx)
-    (table differ unlike refl refl refl refl)
+pub has-meet : (a b i : ℕ) → has (meet a b) i ≡ (has a i && has b i)
+has-meet = has-op meet min _&&_ and-step (λ x y hx hy. omega arith) (table min _&&_ refl refl refl refl)
 
 but-not : Bool → Bool → Bool
 but-not a b = a && not b
 
-minus-step : (a b : ℕ) → a - bitAnd a b ≡ (a / 2 - bitAnd (a / 2) (b / 2)) * 2 + (a % 2 - min (a % 2) (b % 2))
+minus-step : (a b : ℕ) → minus a b ≡ minus (a / 2) (b / 2) * 2 + (a % 2 - min (a % 2) (b % 2))
+unfolding minus
 minus-step a b = omega (arith, and-step a b, and-le-l (a / 2) (b / 2))
 
-has-sub : (a b i : ℕ) → has (a - bitAnd a b) i ≡ (has a i && not (has b i))
+pub has-minus : (a b i : ℕ) → has (minus a b) i ≡ (has a i && not (has b i))
 unfolding but-not
-has-sub = has-op (λ a b. a - bitAnd a b) (λ x y. x - min x y) but-not minus-step (λ x y hx hy. omega arith) (table (λ x y. x - min x y) but-not refl refl refl refl)
+has-minus = has-op minus (λ x y. x - min x y) but-not minus-step (λ x y hx hy. omega arith) (table (λ x y. x - min x y) but-not refl refl refl refl)
 
 -- the complement at width w, `!b`
 pub has-not : (w b i : ℕ) → b < 2 ^ w → i < w → has (2 ^ w - 1 - b) i ≡ not (has b i)
@@ -124,18 +124,6 @@ has-not (suc w) b (suc i) h l =
     let high : (2 ^ suc w - 1 - b) / 2 ≡ 2 ^ w - 1 - b / 2 = omega (arith, pow-suc 2 w) in
     has-suc (2 ^ suc w - 1 - b) i ∙ ap (λ (x : ℕ). has x i) high ∙ has-not w (b / 2) i (half-lt w h) (le-of-suc-le-suc l)
     ∙ ap not (sym (has-suc b i))
-
--- ---- the named operations
-
-pub has-union : (a b i : ℕ) → has (union a b) i ≡ (has a i || has b i)
-has-union = has-or
-
-pub has-meet : (a b i : ℕ) → has (meet a b) i ≡ (has a i && has b i)
-has-meet = has-and
-
-pub has-minus : (a b i : ℕ) → has (minus a b) i ≡ (has a i && not (has b i))
-unfolding minus
-has-minus = has-sub
 
 -- they stay within the width
 pub union-lt : (w : ℕ) {a b : ℕ} → a < 2 ^ w → b < 2 ^ w → union a b < 2 ^ w
@@ -151,10 +139,16 @@ minus-le a b = omega arith
 -- `a & !b` at width w
 pub and-not : (w : ℕ) {a b : ℕ} → a < 2 ^ w → b < 2 ^ w → bitAnd a (2 ^ w - 1 - b) ≡ minus a b
 and-not w {a} {b} ha hb =
-    ext w (lt-of-le-of-lt (and-le-l a (2 ^ w - 1 - b)) ha) (lt-of-le-of-lt (minus-le a b) ha)
-    (λ i l. has-and a (2 ^ w - 1 - b) i ∙ ap (λ (t : Bool). has a i && t) (has-not w b i hb l) ∙ sym (has-minus a b i))
+    ext w (lt-of-le-of-lt (meet-le a (2 ^ w - 1 - b)) ha) (lt-of-le-of-lt (minus-le a b) ha)
+    (λ i l. has-meet a (2 ^ w - 1 - b) i ∙ ap (λ (t : Bool). has a i && t) (has-not w b i hb l) ∙ sym (has-minus a b i))
 
--- the set of one number, and `1 << m` at width w
+-- ---- one number, and all below a number
+
+-- `s >> m & 1 == 1`
+pub shift-test : (s m : ℕ) → eqb (bitAnd (s / 2 ^ m) 1) 1 ≡ has s m
+unfolding has
+shift-test s m = ap (λ (x : ℕ). eqb x 1) (and-mask (s / 2 ^ m) 1)
+
 pub has-single : (m i : ℕ) → has (single m) i ≡ eqb i m
 has-single zero zero = has-0 1
 has-single zero (suc i) = has-suc 1 i ∙ has-none i ∙ sym (eqb·suc-zero i)
@@ -168,10 +162,10 @@ has-single (suc m) (suc i) =
 pub single-lt : (w m : ℕ) → m < w → single m < 2 ^ w
 single-lt w m h = pow-lt h
 
+-- `1 << m` at width w
 pub one-shl : (w m : ℕ) → m < w → 1 * 2 ^ m % 2 ^ w ≡ single m
-one-shl w m h = ap (λ (x : ℕ). x % 2 ^ w) (one-mul (2 ^ m)) ∙ mod-eq-of-lt (pow-lt h)
+one-shl w m h = ap (λ (x : ℕ). x % 2 ^ w) (one-mul (2 ^ m)) ∙ mod-eq-of-lt (single-lt w m h)
 
--- all below n, and `MAX >> (w - n)`
 pub has-below : (n i : ℕ) → has (below n) i ≡ ltb i n
 has-below zero i = has-none i ∙ sym (leb·suc-zero i)
 has-below (suc n) zero =
@@ -184,89 +178,26 @@ has-below (suc n) (suc i) =
 pub below-lt : (n : ℕ) → below n < 2 ^ n
 below-lt n = ones-lt n
 
+-- `MAX >> (w - n)` at width w
 pub ones-shr : (w n : ℕ) → n ≤ w → (2 ^ w - 1) / 2 ^ (w - n) ≡ below n
 ones-shr w n h =
     let e : n + (w - n) ≡ w = omega arith in
     ap (λ (k : ℕ). (2 ^ k - 1) / 2 ^ (w - n)) (sym e) ∙ ap (λ (x : ℕ). x / 2 ^ (w - n)) (ones-split n (w - n)) ∙ high (2 ^ n - 1) (w - n) (ones-lt (w - n))
 
--- ---- the set of a test
-
-digit-lt : (t : Bool) → digit t < 2
-unfolding digit
-digit-lt true = omega arith
-digit-lt false = omega arith
-
-pub setOf-lt : (n : ℕ) (p : ℕ → Bool) → setOf n p < 2 ^ n
-unfolding setOf
-setOf-lt zero p = zero-lt-suc 0
-setOf-lt (suc n) p = subst (λ (x : ℕ). digit (p n) * 2 ^ n + setOf n p < x) (sym (pow-succ' 2 n)) (digits-lt (digit-lt (p n)) (setOf-lt n p))
-
--- below place n only the low part counts, and from there on only the high one
-has-block-low : (n a r i : ℕ) → i < n → has (a * 2 ^ n + r) i ≡ has r i
-has-block-low zero a r i l = absurd (not-suc-le-zero l)
-has-block-low (suc n) a r zero l = has-0 (a * 2 ^ suc n + r) ∙ ap (λ (x : ℕ). eqb x 1) (block-odd a n r) ∙ sym (has-0 r)
-has-block-low (suc n) a r (suc i) l =
-    has-suc (a * 2 ^ suc n + r) i ∙ ap (λ (x : ℕ). has x i) (block-half a n r) ∙ has-block-low n a (r / 2) i (le-of-suc-le-suc l) ∙ sym (has-suc r i)
-
-has-block-at : (n r : ℕ) (t : Bool) → r < 2 ^ n → has (digit t * 2 ^ n + r) n ≡ t
-unfolding has digit
-has-block-at n r true h = ap (λ (x : ℕ). eqb (x % 2) 1) (high 1 n h)
-has-block-at n r false h = ap (λ (x : ℕ). eqb (x % 2) 1) (high 0 n h)
-
-pub has-setOf : (n : ℕ) (p : ℕ → Bool) (i : ℕ) → i < n → has (setOf n p) i ≡ p i
-unfolding setOf
-has-setOf zero p i l = absurd (not-suc-le-zero l)
-has-setOf (suc n) p i l =
-    ⊎-elim
-    (λ (e : i ≡ n). ap (has (digit (p n) * 2 ^ n + setOf n p)) e ∙ has-block-at n (setOf n p) (p n) (setOf-lt n p) ∙ ap p (sym e))
-    (λ (h : i < n). has-block-low n (digit (p n)) (setOf n p) i h ∙ has-setOf n p i h)
-    (eq-or-lt-of-le (le-of-suc-le-suc l))
-
--- a mask of n bits that has what the test says is the set of the test
-pub setOf-ext : (n : ℕ) (p : ℕ → Bool) {s : ℕ} → s < 2 ^ n → ((i : ℕ) → i < n → has s i ≡ p i) → s ≡ setOf n p
-setOf-ext n p h e = ext n h (setOf-lt n p) (λ i l. e i l ∙ sym (has-setOf n p i l))
-
--- tests that agree below n have one set
-pub setOf-same : (n : ℕ) (p q : ℕ → Bool) → ((i : ℕ) → i < n → p i ≡ q i) → setOf n p ≡ setOf n q
-setOf-same n p q e = setOf-ext n q (setOf-lt n p) (λ i l. has-setOf n p i l ∙ e i l)
-
--- a loop that builds the set: place n is added by `s | 1 << n` where the test holds, and left out where not
-pub setOf-add : (w n : ℕ) (p : ℕ → Bool) → n < w → p n ≡ true → bitOr (setOf n p) (1 * 2 ^ n % 2 ^ w) ≡ setOf (n + 1) p
-unfolding setOf digit
-setOf-add w n p h e =
-    ap (λ (x : ℕ). bitOr (setOf n p) x) (mod-eq-of-lt (subst (λ (x : ℕ). x < 2 ^ w) (sym (one-mul (2 ^ n))) (pow-lt h)))
-    ∙ or-shifted-r 1 n (setOf n p) (setOf-lt n p)
-    ∙ ap (λ (t : Bool). digit t * 2 ^ n + setOf n p) (sym e)
-    ∙ ap (λ (k : ℕ). setOf k p) (sym (add-one n))
-
-pub setOf-skip : (n : ℕ) (p : ℕ → Bool) → p n ≡ false → setOf n p ≡ setOf (n + 1) p
-unfolding setOf digit
-setOf-skip n p e =
-    sym (zero-add (setOf n p)) ∙ ap (λ (x : ℕ). x + setOf n p) (sym (zero-mul (2 ^ n)))
-    ∙ ap (λ (t : Bool). digit t * 2 ^ n + setOf n p) (sym e)
-    ∙ ap (λ (k : ℕ). setOf k p) (sym (add-one n))
-
--- `s >> m & 1 == 1`
-pub shift-test : (s m : ℕ) → eqb (bitAnd (s / 2 ^ m) 1) 1 ≡ has s m
-unfolding has
-shift-test s m = ap (λ (x : ℕ). eqb x 1) (and-mask (s / 2 ^ m) 1)
-
--- `s & !(1 << m)` at width w
-pub and-not-bit : (w m : ℕ) {s : ℕ} → s < 2 ^ w → m < w → bitAnd s (2 ^ w - 1 - 1 * 2 ^ m % 2 ^ w) ≡ minus s (single m)
-and-not-bit w m {s} h l = ap (λ (x : ℕ). bitAnd s (2 ^ w - 1 - x)) (one-shl w m l) ∙ and-not w h (single-lt w m l)
-
 -- ---- a set in parts: the k low places, and the places from k on
 
+pub has-join-low : (k hi lo i : ℕ) → i < k → has (hi * 2 ^ k + lo) i ≡ has lo i
+has-join-low zero hi lo i l = absurd (not-suc-le-zero l)
+has-join-low (suc k) hi lo zero l = has-0 (hi * 2 ^ suc k + lo) ∙ ap (λ (x : ℕ). eqb x 1) (block-odd hi k lo) ∙ sym (has-0 lo)
+has-join-low (suc k) hi lo (suc i) l =
+    has-suc (hi * 2 ^ suc k + lo) i ∙ ap (λ (x : ℕ). has x i) (block-half hi k lo) ∙ has-join-low k hi (lo / 2) i (le-of-suc-le-suc l) ∙ sym (has-suc lo i)
+
 pub has-low : (k s i : ℕ) → i < k → has (s % 2 ^ k) i ≡ has s i
-has-low k s i l = sym (has-block-low k (s / 2 ^ k) (s % 2 ^ k) i l) ∙ ap (λ (x : ℕ). has x i) (split s k)
+has-low k s i l = sym (has-join-low k (s / 2 ^ k) (s % 2 ^ k) i l) ∙ ap (λ (x : ℕ). has x i) (split s k)
 
 pub has-shr : (k s i : ℕ) → has (s / 2 ^ k) i ≡ has s (k + i)
 unfolding has
 has-shr k s i = ap (λ (x : ℕ). eqb (x % 2) 1) (shr-shr s k i)
-
--- two words joined
-pub has-join-low : (k hi lo i : ℕ) → i < k → has (hi * 2 ^ k + lo) i ≡ has lo i
-has-join-low = has-block-low
 
 pub has-join-high : (k hi lo i : ℕ) → lo < 2 ^ k → has (hi * 2 ^ k + lo) (k + i) ≡ has hi i
 has-join-high k hi lo i h = sym (has-shr k (hi * 2 ^ k + lo) i) ∙ ap (λ (x : ℕ). has x i) (high hi k h)
@@ -281,3 +212,73 @@ lt-of-members w k s h e =
     at : (i : ℕ) → i < w → Dec (k ≤ i) → has (s % 2 ^ k) i ≡ has s i
     at i l (yes q) = has-above k (s % 2 ^ k) i (mod-lt s (pow-pos k)) q ∙ sym (e i q l)
     at i l (no q) = has-low k s i (lt-of-not-le q)
+
+-- ---- the set of a test
+
+digit-lt : (t : Bool) → digit t < 2
+unfolding digit
+digit-lt true = omega arith
+digit-lt false = omega arith
+
+pub setOf-lt : (n : ℕ) (p : ℕ → Bool) → setOf n p < 2 ^ n
+unfolding setOf
+setOf-lt zero p = zero-lt-suc 0
+setOf-lt (suc n) p = subst (λ (x : ℕ). digit (p n) * 2 ^ n + setOf n p < x) (sym (pow-succ' 2 n)) (digits-lt (digit-lt (p n)) (setOf-lt n p))
+
+-- a digit above n places is the truth value at place n
+has-digit : (n r : ℕ) (t : Bool) → r < 2 ^ n → has (digit t * 2 ^ n + r) n ≡ t
+unfolding has digit
+has-digit n r true h = ap (λ (x : ℕ). eqb (x % 2) 1) (high 1 n h)
+has-digit n r false h = ap (λ (x : ℕ). eqb (x % 2) 1) (high 0 n h)
+
+pub has-setOf : (n : ℕ) (p : ℕ → Bool) (i : ℕ) → i < n → has (setOf n p) i ≡ p i
+unfolding setOf
+has-setOf zero p i l = absurd (not-suc-le-zero l)
+has-setOf (suc n) p i l =
+    ⊎-elim
+    (λ (e : i ≡ n). ap (has (digit (p n) * 2 ^ n + setOf n p)) e ∙ has-digit n (setOf n p) (p n) (setOf-lt n p) ∙ ap p (sym e))
+    (λ (h : i < n). has-join-low n (digit (p n)) (setOf n p) i h ∙ has-setOf n p i h)
+    (eq-or-lt-of-le (le-of-suc-le-suc l))
+
+-- a set of n bits that has what the test says is the set of the test
+pub setOf-ext : (n : ℕ) (p : ℕ → Bool) {s : ℕ} → s < 2 ^ n → ((i : ℕ) → i < n → has s i ≡ p i) → s ≡ setOf n p
+setOf-ext n p h e = ext n h (setOf-lt n p) (λ i l. e i l ∙ sym (has-setOf n p i l))
+
+-- tests that agree below n have one set
+pub setOf-same : (n : ℕ) (p q : ℕ → Bool) → ((i : ℕ) → i < n → p i ≡ q i) → setOf n p ≡ setOf n q
+setOf-same n p q e = setOf-ext n q (setOf-lt n p) (λ i l. has-setOf n p i l ∙ e i l)
+
+-- a loop over all places that builds the set: n is added where the test holds, and left out where not
+pub setOf-add : (n : ℕ) (p : ℕ → Bool) → p n ≡ true → union (setOf n p) (single n) ≡ setOf (n + 1) p
+unfolding setOf digit
+setOf-add n p e =
+    ap (λ (x : ℕ). bitOr (setOf n p) x) (sym (one-mul (2 ^ n)))
+    ∙ or-shifted-r 1 n (setOf n p) (setOf-lt n p)
+    ∙ ap (λ (t : Bool). digit t * 2 ^ n + setOf n p) (sym e)
+    ∙ ap (λ (k : ℕ). setOf k p) (sym (add-one n))
+
+pub setOf-skip : (n : ℕ) (p : ℕ → Bool) → p n ≡ false → setOf n p ≡ setOf (n + 1) p
+unfolding setOf digit
+setOf-skip n p e =
+    sym (zero-add (setOf n p)) ∙ ap (λ (x : ℕ). x + setOf n p) (sym (zero-mul (2 ^ n)))
+    ∙ ap (λ (t : Bool). digit t * 2 ^ n + setOf n p) (sym e)
+    ∙ ap (λ (k : ℕ). setOf k p) (sym (add-one n))
+
+-- ---- the members of a set that have p
+
+pub those-lt : (w s : ℕ) (p : ℕ → Bool) → those w s p < 2 ^ w
+unfolding those
+those-lt w s p = setOf-lt w (λ i. has s i && p i)
+
+pub has-those : (w s : ℕ) (p : ℕ → Bool) (i : ℕ) → i < w → has (those w s p) i ≡ (has s i && p i)
+unfolding those
+has-those w s p = has-setOf w (λ i. has s i && p i)
+
+-- tests that agree on the members of s pick the same
+pub those-same : (w s : ℕ) (p q : ℕ → Bool) → ((i : ℕ) → i < w → has s i ≡ true → p i ≡ q i) → those w s p ≡ those w s q
+unfolding those
+those-same w s p q h = setOf-same w (λ i. has s i && p i) (λ i. has s i && q i) (λ i l. at (has s i) (p i) (q i) (h i l))
+  where
+    at : (a b c : Bool) → (a ≡ true → b ≡ c) → (a && b) ≡ (a && c)
+    at true b c e = e refl
+    at false b c e = refl

@@ -1,153 +1,89 @@
--- Tests on the numbers below n and on the members of a set, and the union of sets over the members of a set. Assumes nothing.
-use mathlib.Core.Path.{_≡_, refl, sym, ap, ap₂, _∙_}
-use mathlib.Core.Bool.{Bool, true, false, not, _&&_, _||_, or-assoc, or-false, or-true, and-false, Bool·not-not}
-use mathlib.Core.Logic.{⊎-elim, _⊎_, inl, inr}
-use mathlib.Core.List.{List, _∷_}
+-- Tests on the numbers below n and on the members of a set as equations, and the union of sets over the members of a set. Assumes nothing.
+use mathlib.Core.Path.{_≡_, refl, sym, ap, ap₂, _∙_, subst}
+use mathlib.Core.Bool.{Bool, true, false, not, _&&_, _||_, or-assoc, or-false, or-true, and-false}
+use mathlib.Core.Logic.{⊎-elim}
+use mathlib.Core.List.{List}
 use Prim.Native.Nat.{ℕ, zero, suc, _+_, _^_, _<_}
-use native.Mathlib.Nat.{pos-of-ne-zero, eq-zero-or-pos, not-suc-le-zero, le-of-suc-le-suc, le-refl, le-step, eq-or-lt-of-le, lt-of-le-of-lt, add-zero, add-suc, suc-add, zero-add}
+use native.Mathlib.Nat.{pos-of-ne-zero, eq-zero-or-pos, le-refl, le-step, lt-of-le-of-lt, add-zero, add-suc, suc-add, zero-add}
 use native.Mathlib.Decide.{ℕ-discrete}
 use native.Mathlib.Omega.{arith}
-use lib.Dec.{eqb}
+use lib.Dec.{T, T-not, not-T, eqb, eqb→eq, eqb-refl}
 use lib.ListN.{length}
-use lib.Count.{trailingZeros}
-use lib.Bits.{and-le-l}
-use borrow.Author.Tests.{eqb-true, eqb-false, eq-eqb, ne-eqb, not-true}
-use Rattle.sets.specs.Sets.{has, union, meet, minus, single, meets, some, someIn, every, everyIn, members, membersFrom, prepend, size}
-use Rattle.sets.proofs.Membership.{has-none, has-meet, has-union, has-single, has-minus, minus-le}
-use Rattle.sets.proofs.Members.{Turn, Lowest, fold, trailing-lowest, empty, without-other, members-lowest, members-none, minus-member}
+use borrow.Author.Tests.{eq-eqb, ne-eqb}
+use Rattle.sets.specs.Sets.{has, union, meet, minus, single, meets, some, someIn, everyIn, members, membersFrom, prepend, size, lowest}
+use Rattle.sets.proofs.Tests.{is-true, is-false, of-true, of-false, and-l, and-r, bool-ext}
+use Rattle.sets.proofs.Membership.{ext, has-none, has-meet, has-union, has-single, has-minus, single-lt, meet-le, minus-le}
+use Rattle.sets.proofs.Facts.{some-e, some-i, someIn-i, everyIn-e, everyIn-i}
+use Rattle.sets.proofs.Members.{Turn, Lowest, fold, lowest-member, empty, without-other, members-lowest, members-none, minus-member}
 
--- ---- truth values
-
-clash : (a : Bool) → a ≡ true → a ≡ false → ⊥
-clash a p q = let z : _≡_ {A = ℕ} 0 1 = cc in omega arith
-
-or-left : (a b : Bool) → a ≡ true → (a || b) ≡ true
-or-left a b e = ap (λ (x : Bool). x || b) e
-
-or-right : (a b : Bool) → b ≡ true → (a || b) ≡ true
-or-right a b e = ap (λ (x : Bool). a || x) e ∙ or-true a
-
-or-cases : (a b : Bool) → (a || b) ≡ true → (a ≡ true) ⊎ (b ≡ true)
-or-cases true b e = inl refl
-or-cases false b e = inr e
-
-pub and-parts : (a b : Bool) → (a && b) ≡ true → (a ≡ true) × (b ≡ true)
-and-parts true b e = (refl, e)
-and-parts false b e = absurd (clash false e refl)
-
--- a truth value that is not true is false
-pub not-true-is-false : (a : Bool) → (a ≡ true → ⊥) → a ≡ false
-not-true-is-false true h = absurd (h refl)
-not-true-is-false false h = refl
-
-true-or-false : (a : Bool) → (a ≡ true) ⊎ (a ≡ false)
-true-or-false true = inl refl
-true-or-false false = inr refl
-
--- two truth values that follow from one another are equal
-pub bool-ext : (a b : Bool) → (a ≡ true → b ≡ true) → (b ≡ true → a ≡ true) → a ≡ b
-bool-ext true b f g = sym (f refl)
-bool-ext false true f g = g refl
-bool-ext false false f g = refl
-
--- ---- some
-
-pub some-intro : (n : ℕ) (p : ℕ → Bool) (i : ℕ) → i < n → p i ≡ true → some n p ≡ true
-unfolding some
-some-intro zero p i l e = absurd (not-suc-le-zero l)
-some-intro (suc n) p i l e =
-    ⊎-elim
-    (λ (q : i ≡ n). or-left (p n) (some n p) (ap p (sym q) ∙ e))
-    (λ (h : i < n). or-right (p n) (some n p) (some-intro n p i h e))
-    (eq-or-lt-of-le (le-of-suc-le-suc l))
-
-pub some-elim : (n : ℕ) (p : ℕ → Bool) → some n p ≡ true → (i : ℕ) × (i < n) × (p i ≡ true)
-unfolding some
-some-elim zero p e = absurd (clash false e refl)
-some-elim (suc n) p e =
-    ⊎-elim
-    (λ h. (n, le-refl (suc n), h))
-    (λ h. let r = some-elim n p h in (r .0, le-step (r .1), r .2))
-    (or-cases (p n) (some n p) e)
+-- ---- some number below n has p
 
 pub some-none : (n : ℕ) (p : ℕ → Bool) → some n p ≡ false → (i : ℕ) → i < n → p i ≡ false
-some-none n p e i l = not-true-is-false (p i) (λ h. clash (some n p) (some-intro n p i l h) e)
+some-none n p e i l = is-false (p i) (λ h. of-false e (some-i n p i l h))
 
 pub some-false : (n : ℕ) (p : ℕ → Bool) → ((i : ℕ) → i < n → p i ≡ false) → some n p ≡ false
-some-false n p h = not-true-is-false (some n p) (λ e. let r = some-elim n p e in clash (p (r .0)) (r .2) (h (r .0) (r .1)))
+some-false n p e = is-false (some n p) (λ h. let r = some-e n p h in of-false (e (r .0) (r .1)) (r .2))
 
 pub some-same : (n : ℕ) (p q : ℕ → Bool) → ((i : ℕ) → i < n → p i ≡ q i) → some n p ≡ some n q
 unfolding some
 some-same zero p q e = refl
 some-same (suc n) p q e = ap₂ _||_ (e n (le-refl (suc n))) (some-same n p q (λ i l. e i (le-step l)))
 
--- ---- every
-
-pub every-elim : (n : ℕ) (p : ℕ → Bool) → every n p ≡ true → (i : ℕ) → i < n → p i ≡ true
-unfolding every
-every-elim zero p e i l = absurd (not-suc-le-zero l)
-every-elim (suc n) p e i l =
-    let r = and-parts (p n) (every n p) e in
-    ⊎-elim (λ (q : i ≡ n). ap p q ∙ r .0) (λ (h : i < n). every-elim n p (r .1) i h) (eq-or-lt-of-le (le-of-suc-le-suc l))
-
-pub every-intro : (n : ℕ) (p : ℕ → Bool) → ((i : ℕ) → i < n → p i ≡ true) → every n p ≡ true
-unfolding every
-every-intro zero p h = refl
-every-intro (suc n) p h = ap (λ (x : Bool). x && every n p) (h n (le-refl (suc n))) ∙ every-intro n p (λ i l. h i (le-step l))
-
 -- ---- two sets meet where some number is in both
 
 pub meets-some : (w a b : ℕ) → a < 2 ^ w → meets a b ≡ some w (λ i. has a i && has b i)
-meets-some w a b h =
-    let small : meet a b < 2 ^ w = lt-of-le-of-lt (and-le-l a b) h in
-    bool-ext (meets a b) (some w (λ i. has a i && has b i))
-    (λ e.
-    let r = trailing-lowest w (meet a b) small (pos-of-ne-zero (eqb-false (meet a b) 0 (not-true (eqb (meet a b) 0) e))) in
-    some-intro w (λ i. has a i && has b i) (trailingZeros w (meet a b)) (r .small) (sym (has-meet a b (trailingZeros w (meet a b))) ∙ r .member))
-    (λ e.
-    let r = some-elim w (λ i. has a i && has b i) e in
-    ap not (ne-eqb (meet a b) 0 (λ q. clash (has (meet a b) (r .0)) (has-meet a b (r .0) ∙ r .2) (ap (λ (x : ℕ). has x (r .0)) q ∙ has-none (r .0)))))
+meets-some w a b h = bool-ext (meets a b) (some w (λ i. has a i && has b i)) forth back
+  where
+    forth : T (meets a b) → T (some w (λ i. has a i && has b i))
+    forth m =
+        let t = lowest w (meet a b) in
+        let filled : 0 < meet a b = pos-of-ne-zero (λ e. T-not (eqb (meet a b) 0) m (of-true (eq-eqb (meet a b) 0 e))) in
+        let l = lowest-member w (meet a b) (lt-of-le-of-lt (meet-le a b) h) filled in
+        some-i w (λ i. has a i && has b i) t (l .small) (of-true (sym (has-meet a b t) ∙ l .member))
 
--- ---- `a & !b == 0`: every member of a is in b
+    back : T (some w (λ i. has a i && has b i)) → T (meets a b)
+    back s =
+        let r = some-e w (λ i. has a i && has b i) s in
+        not-T (eqb (meet a b) 0)
+        (λ e. of-false (sym (has-meet a b (r .0)) ∙ ap (λ (x : ℕ). has x (r .0)) (eqb→eq (meet a b) 0 e) ∙ has-none (r .0)) (r .2))
+
+-- ---- a less b is empty where every member of a is in b
 
 pub minus-every : (w a b : ℕ) → a < 2 ^ w → eqb (minus a b) 0 ≡ everyIn w a (has b)
-unfolding everyIn
-minus-every w a b h =
-    bool-ext (eqb (minus a b) 0) (every w (λ i. not (has a i) || has b i))
-    (λ e. every-intro w (λ i. not (has a i) || has b i) (λ i l.
-    in-both (has a i) (has b i) (sym (has-minus a b i) ∙ ap (λ (x : ℕ). has x i) (eqb-true (minus a b) 0 e) ∙ has-none i)))
-    (λ e. eq-eqb (minus a b) 0 (empty w (lt-of-le-of-lt (minus-le a b) h) (λ i l.
-    has-minus a b i ∙ not-both (has a i) (has b i) (every-elim w (λ i. not (has a i) || has b i) e i l))))
+minus-every w a b h = bool-ext (eqb (minus a b) 0) (everyIn w a (has b)) forth back
   where
-    in-both : (x y : Bool) → (x && not y) ≡ false → (not x || y) ≡ true
-    in-both true y e = sym (Bool·not-not y) ∙ ap not e
-    in-both false y e = refl
+    in-both : (x y : Bool) → (x && not y) ≡ false → T x → T y
+    in-both true true e k = tt
+    in-both true false e k = absurd (of-false e tt)
+    in-both false y e k = absurd k
 
-    not-both : (x y : Bool) → (not x || y) ≡ true → (x && not y) ≡ false
-    not-both true y e = ap not e
-    not-both false y e = refl
+    forth : T (eqb (minus a b) 0) → T (everyIn w a (has b))
+    forth e =
+        everyIn-i w a (has b)
+        (λ i l. in-both (has a i) (has b i) (sym (has-minus a b i) ∙ ap (λ (x : ℕ). has x i) (eqb→eq (minus a b) 0 e) ∙ has-none i))
+
+    outside : T (everyIn w a (has b)) → (i : ℕ) → i < w → T (has a i && not (has b i)) → ⊥
+    outside e i l k = T-not (has b i) (and-r (has a i) (not (has b i)) k) (everyIn-e w a (has b) e i l (and-l (has a i) (not (has b i)) k))
+
+    back : T (everyIn w a (has b)) → T (eqb (minus a b) 0)
+    back e =
+        of-true (eq-eqb (minus a b) 0
+        (empty w (lt-of-le-of-lt (minus-le a b) h) (λ i l. has-minus a b i ∙ is-false (has a i && not (has b i)) (outside e i l))))
 
 -- ---- a loop over the members that looks for one with p: it is at hand, or the set without a member that has no p says the same
 
-pub someIn-hit : (w s t : ℕ) (p : ℕ → Bool) → t < w → has s t ≡ true → p t ≡ true → someIn w s p ≡ true
-unfolding someIn
-someIn-hit w s t p l h e = some-intro w (λ i. has s i && p i) t l (ap₂ _&&_ h e)
-
-pub someIn-skip : (w s t : ℕ) (p : ℕ → Bool) → p t ≡ false → someIn w (minus s (single t)) p ≡ someIn w s p
-unfolding someIn
-someIn-skip w s t p e = some-same w (λ i. has (minus s (single t)) i && p i) (λ i. has s i && p i) (λ i l. at i (ℕ-discrete i t))
-  where
-    at : (i : ℕ) → Dec (i ≡ t) → (has (minus s (single t)) i && p i) ≡ (has s i && p i)
-    at i (yes q) = ap (λ (x : Bool). has (minus s (single t)) i && x) (ap p q ∙ e) ∙ and-false (has (minus s (single t)) i)
-        ∙ sym (ap (λ (x : Bool). has s i && x) (ap p q ∙ e) ∙ and-false (has s i))
-    at i (no q) = ap (λ (x : Bool). x && p i) (without-other s t i q)
-
--- the same for a turn of a loop
 pub someIn-turn : {w s t r : ℕ} (p : ℕ → Bool) → Turn w s t r → p t ≡ false → someIn w r p ≡ someIn w s p
-someIn-turn {w} {s} {t} p u e = ap (λ (x : ℕ). someIn w x p) (u .removed) ∙ someIn-skip w s t p e
+unfolding someIn
+someIn-turn {w} {s} {t} {r} p u e = some-same w (λ i. has r i && p i) (λ i. has s i && p i) (λ i l. at i (ℕ-discrete i t))
+  where
+    at : (i : ℕ) → Dec (i ≡ t) → (has r i && p i) ≡ (has s i && p i)
+    at i (yes q) =
+        ap (λ (x : Bool). has r i && x) (ap p q ∙ e) ∙ and-false (has r i)
+        ∙ sym (ap (λ (x : Bool). has s i && x) (ap p q ∙ e) ∙ and-false (has s i))
+    at i (no q) = ap (λ (x : Bool). x && p i) (ap (λ (x : ℕ). has x i) (u .removed) ∙ without-other s t i q)
 
 pub someIn-found : {w s t r : ℕ} (p : ℕ → Bool) → Turn w s t r → p t ≡ true → someIn w s p ≡ true
-someIn-found {w} {s} {t} p u e = someIn-hit w s t p (u .lowest .small) (u .lowest .member) e
+someIn-found {w} {s} {t} p u e = is-true (someIn w s p) (someIn-i w s p t (u .lowest .small) (of-true (u .lowest .member)) (of-true e))
 
 pub someIn-none : (w s : ℕ) (p : ℕ → Bool) → s ≡ 0 → someIn w s p ≡ false
 unfolding someIn
@@ -195,7 +131,7 @@ size-none : (w s : ℕ) → s < 2 ^ w → size w s ≡ 0 → s ≡ 0
 unfolding size
 size-none w s h e =
     ⊎-elim (λ z. z)
-    (λ p. absurd (let m : length (members w s) ≡ length (trailingZeros w s ∷ members w (minus s (single (trailingZeros w s)))) = ap length (members-lowest w s (trailingZeros w s) (trailing-lowest w s h p)) in omega arith))
+    (λ p. absurd (let m = ap length (members-lowest (lowest-member w s h p)) in omega arith))
     (eq-zero-or-pos s)
 
 -- a set of one member is the single set of that member
@@ -203,19 +139,32 @@ pub one-member : (w s : ℕ) → s < 2 ^ w → size w s ≡ 1 → (t : ℕ) × (
 unfolding size
 one-member w s h e =
     ⊎-elim
-    (λ z. absurd (let m : length (members w s) ≡ length (members w 0) = ap (λ (x : ℕ). length (members w x)) z in
-    let n : length (members w 0) ≡ 0 = ap length (members-none w) in omega arith))
-    (λ p. let t = trailingZeros w s in
-    let r = trailing-lowest w s h p in
-    let rest = minus s (single t) in
-    let m : length (members w s) ≡ length (t ∷ members w rest) = ap length (members-lowest w s t r) in
-    let z : rest ≡ 0 = size-none w rest (lt-of-le-of-lt (minus-le s (single t)) h) (omega arith) in
-    (t, r .small, omega (arith, minus-member s t (r .member))))
+    (λ z. absurd (let m = ap (λ (x : ℕ). length (members w x)) z in let n = ap length (members-none w) in omega arith))
+    (λ p.
+    let t = lowest w s in
+    let l = lowest-member w s h p in
+    let m = ap length (members-lowest l) in
+    let z : minus s (single t) ≡ 0 = size-none w (minus s (single t)) (lt-of-le-of-lt (minus-le s (single t)) h) (omega arith) in
+    (t, l .small, omega (arith, minus-member s t (l .member))))
     (eq-zero-or-pos s)
 
 pub size-single : (w t : ℕ) → t < w → size w (single t) ≡ 1
 unfolding size
-size-single w t l =
-    let r : Lowest w (single t) t = record { small = l; member = has-single t t ∙ eq-eqb t t refl; least = λ j h. has-single t j ∙ ne-eqb j t (λ q. omega arith) } in
-    let z : minus (single t) (single t) ≡ 0 = omega (arith, minus-member (single t) t (r .member)) in
-    ap length (members-lowest w (single t) t r) ∙ ap (λ (x : ℕ). suc (length (members w x))) z ∙ ap (λ (x : List ℕ). suc (length x)) (members-none w)
+size-single w t h =
+    let l : Lowest w (single t) t = record { small = h; member = has-single t t ∙ eq-eqb t t refl; least = λ j k. has-single t j ∙ ne-eqb j t (λ q. omega arith) } in
+    let z : minus (single t) (single t) ≡ 0 = omega (arith, minus-member (single t) t (l .member)) in
+    ap length (members-lowest l) ∙ ap (λ (x : ℕ). suc (length (members w x))) z ∙ ap (λ (m : List ℕ). suc (length m)) (members-none w)
+
+-- the size is 1 exactly where one number alone is in the set
+pub size-one-e : (w a : ℕ) → a < 2 ^ w → size w a ≡ 1 → (j : ℕ) × (j < w) × T (has a j) × ((i : ℕ) → T (has a i) → i ≡ j)
+size-one-e w a l e =
+    let r = one-member w a l e in
+    let t = r .0 in
+    let at : (i : ℕ) → has a i ≡ eqb i t = λ i. ap (λ (b : ℕ). has b i) (r .2) ∙ has-single t i in
+    (t, r .1, subst T (sym (at t)) (eqb-refl t), λ i h. eqb→eq i t (subst T (at i) h))
+
+pub size-one-i : (w a j : ℕ) → a < 2 ^ w → j < w → T (has a j) → ((i : ℕ) → T (has a i) → i ≡ j) → size w a ≡ 1
+size-one-i w a j l k h u =
+    let at : (i : ℕ) → i < w → has a i ≡ has (single j) i = λ i m.
+    bool-ext (has a i) (eqb i j) (λ g. of-true (eq-eqb i j (u i g))) (λ g. subst (λ (x : ℕ). T (has a x)) (sym (eqb→eq i j g)) h) ∙ sym (has-single j i) in
+    ap (size w) (ext w l (single-lt w j k) at) ∙ size-single w j k

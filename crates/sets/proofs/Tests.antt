@@ -4,6 +4,7 @@ use mathlib.Core.Logic.{_⊎_, inl, inr}
 use mathlib.Core.Bool.{Bool, true, false, not, _&&_, _||_, cond}
 use lib.Dec.{T}
 
+-- as an equation, and back
 pub is-true : (b : Bool) → T b → b ≡ true
 is-true true h = refl
 is-true false h = absurd h
@@ -15,6 +16,10 @@ is-false false h = refl
 pub of-true : {b : Bool} → b ≡ true → T b
 of-true e = subst T (sym e) tt
 
+pub of-false : {b : Bool} → b ≡ false → T b → ⊥
+of-false e h = subst T e h
+
+-- both, and one of two: each taken apart and shown
 pub and-l : (a b : Bool) → T (a && b) → T a
 and-l true b h = tt
 and-l false b h = h

@@ -1,36 +1,28 @@
 -- A loop over the members of a set that builds the set of those with p, and the number of a member in the order. Assumes nothing.
-use mathlib.Core.Path.{_≡_, refl, sym, ap, ap₂, _∙_}
+use mathlib.Core.Path.{_≡_, refl, sym, ap, ap₂, _∙_, subst}
 use mathlib.Core.Bool.{Bool, true, false, not, _&&_, _||_, and-true, and-false, or-false, or-true}
-use Prim.Native.Nat.{ℕ, zero, suc, _+_, _-_, _*_, _%_, _^_, _≤_, _<_, zero-le, suc-le-suc}
+use Prim.Native.Nat.{ℕ, zero, suc, _+_, _-_, _^_, _≤_, _<_, zero-le, suc-le-suc}
 use native.Mathlib.Nat.{not-suc-le-zero, le-of-suc-le-suc, le-refl, lt-of-le-of-lt, add-zero, sub-zero, zero-add, sub-self}
 use native.Mathlib.Decide.{ℕ-discrete}
 use native.Mathlib.Omega.{arith}
+use lib.Dec.{T}
 use lib.ListN.{length, getD}
-use lib.Bits.{bitOr}
 use borrow.Author.Tests.{eq-eqb, ne-eqb}
 use Rattle.sets.specs.Sets.{has, union, minus, single, those, members, membersFrom, prepend, size}
-use Rattle.sets.proofs.Membership.{has-none, has-setOf, setOf-lt, setOf-same, has-union, has-minus, has-single, union-lt, single-lt, minus-le, one-shl, ext}
+use Rattle.sets.proofs.Tests.{is-true, of-true, of-false, and-l}
+use Rattle.sets.proofs.Membership.{has-none, has-union, has-minus, has-single, union-lt, single-lt, minus-le, ext}
+pub use Rattle.sets.proofs.Membership.{has-those, those-lt, those-same}
 use Rattle.sets.proofs.Members.{Turn, empty, without-it, without-other}
-use Rattle.sets.proofs.Quantifiers.{and-parts}
-
--- ---- membership
-
-pub those-lt : (w s : ℕ) (p : ℕ → Bool) → those w s p < 2 ^ w
-unfolding those
-those-lt w s p = setOf-lt w (λ i. has s i && p i)
-
-pub has-those : (w s : ℕ) (p : ℕ → Bool) (i : ℕ) → i < w → has (those w s p) i ≡ (has s i && p i)
-unfolding those
-has-those w s p = has-setOf w (λ i. has s i && p i)
 
 -- ---- the loop: the set built so far is `minus (those w all p) s`, where s is what is left of all
 
-abbrev pub Within : ℕ → ℕ → Type 0
-Within s all = (i : ℕ) → has s i ≡ true → has all i ≡ true
+-- each member of s is one of all
+abbrev pub Subset : ℕ → ℕ → Type 0
+Subset s all = (i : ℕ) → T (has s i) → T (has all i)
 
-pub within-turn : {w s t r : ℕ} (all : ℕ) → Turn w s t r → Within s all → Within r all
-within-turn {s = s} {t = t} all u h i e =
-    h i (and-parts (has s i) (not (has (single t) i)) (sym (has-minus s (single t) i) ∙ ap (λ (x : ℕ). has x i) (sym (u .removed)) ∙ e) .0)
+pub subset-turn : {w s t r : ℕ} (all : ℕ) → Turn w s t r → Subset s all → Subset r all
+subset-turn {s = s} {t = t} all u h i k =
+    h i (and-l (has s i) (not (has (single t) i)) (subst T (ap (λ (x : ℕ). has x i) (u .removed) ∙ has-minus s (single t) i) k))
 
 -- nothing is built at the start
 pub those-start : (w all : ℕ) (p : ℕ → Bool) → minus (those w all p) all ≡ 0
@@ -85,13 +77,12 @@ module _ {w s t r : ℕ} (d : ℕ) (u : Turn w s t r) where
           has-union (minus d s) (single t) i
           ∙ ap (λ (b : Bool). has (minus d s) i || b) (has-single t i ∙ ne-eqb i t q) ∙ or-false (has (minus d s) i) ∙ built-other i q
 
--- t leaves what is left: it is added by `| 1 << t` where it has p, and else nothing changes
-pub those-add : {w s t r : ℕ} (all : ℕ) (p : ℕ → Bool) → Turn w s t r → Within s all → p t ≡ true
-    → bitOr (minus (those w all p) s) (1 * 2 ^ t % 2 ^ w) ≡ minus (those w all p) r
+-- t leaves what is left: it is added where it has p, and else nothing changes
+pub those-add : {w s t r : ℕ} (all : ℕ) (p : ℕ → Bool) → Turn w s t r → Subset s all → p t ≡ true
+    → union (minus (those w all p) s) (single t) ≡ minus (those w all p) r
 those-add {w} {s} {t} {r} all p u h e =
-    ap (λ (x : ℕ). bitOr (minus (those w all p) s) x) (one-shl w t (u .lowest .small))
-    ∙ built-add (those w all p) u (those-lt w all p)
-    (has-those w all p t (u .lowest .small) ∙ ap₂ _&&_ (h t (u .lowest .member)) e)
+    built-add (those w all p) u (those-lt w all p)
+    (has-those w all p t (u .lowest .small) ∙ ap₂ _&&_ (is-true (has all t) (h t (of-true (u .lowest .member)))) e)
 
 pub those-skip : {w s t r : ℕ} (all : ℕ) (p : ℕ → Bool) → Turn w s t r → p t ≡ false → minus (those w all p) s ≡ minus (those w all p) r
 those-skip {w} {s} {t} {r} all p u e =
@@ -100,11 +91,11 @@ those-skip {w} {s} {t} {r} all p u e =
 
 -- ---- the member of number i, counted from 0, is the one with i members below it
 
-pub record Nth (k n s i t : ℕ) : Type 0 where
-  pub from : k ≤ t
-  pub upto : t < k + n
-  pub member : has s t ≡ true
-  pub rank : length (membersFrom k (t - k) s) ≡ i
+record Nth (k n s i t : ℕ) : Type 0 where
+  from : k ≤ t
+  upto : t < k + n
+  member : has s t ≡ true
+  rank : length (membersFrom k (t - k) s) ≡ i
 
 nth-from : (n k s i : ℕ) → i < length (membersFrom k n s) → Nth k n s i (getD (membersFrom k n s) i 0)
 unfolding membersFrom
@@ -145,7 +136,7 @@ below-rank zero (suc n) k s l e = at (has s k) (ap (has s) (sym (add-zero k)) �
   where
     at : (b : Bool) → b ≡ true → (0 < length (prepend b k (membersFrom (suc k) n s))) × (getD (prepend b k (membersFrom (suc k) n s)) 0 0 ≡ k + 0)
     at true q = (suc-le-suc zero-le, sym (add-zero k))
-    at false q = absurd (let z : _≡_ {A = ℕ} 0 1 = cc in omega arith)
+    at false q = absurd (of-false (sym q) tt)
 below-rank (suc d) (suc n) k s l e =
     let z : suc k + d ≡ k + suc d = omega arith in
     let ih = below-rank d n (suc k) s (le-of-suc-le-suc l) (ap (has s) z ∙ e) in
@@ -160,12 +151,3 @@ below-rank (suc d) (suc n) k s l e =
 pub member-nth : (w s t : ℕ) → t < w → has s t ≡ true → (size t s < size w s) × (getD (members w s) (size t s) 0 ≡ t)
 unfolding size members
 member-nth w s t l e = let r = below-rank t w 0 s l (ap (has s) (zero-add t) ∙ e) in (r .0, r .1 ∙ zero-add t)
-
--- tests that agree on the members of s pick the same
-pub those-same : (w s : ℕ) (p q : ℕ → Bool) → ((i : ℕ) → i < w → has s i ≡ true → p i ≡ q i) → those w s p ≡ those w s q
-unfolding those
-those-same w s p q h = setOf-same w (λ i. has s i && p i) (λ i. has s i && q i) (λ i l. at i l (has s i) refl)
-  where
-    at : (i : ℕ) → i < w → (b : Bool) → has s i ≡ b → (has s i && p i) ≡ (has s i && q i)
-    at i l true e = ap (λ (x : Bool). has s i && x) (h i l e)
-    at i l false e = ap (λ (x : Bool). x && p i) e ∙ sym (ap (λ (x : Bool). x && q i) e)

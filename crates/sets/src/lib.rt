@@ -1,4 +1,3 @@
-// Sets of modes (u32) and of transitions (u64) as words.
-pub fn one() -> u32 {
-    1
-}
+// Sets of small numbers as words: modes in a u32, transitions in a u64. The contracts cite specs/Sets.antt, where membership is defined.
+pub mod modes;
+pub mod transitions;

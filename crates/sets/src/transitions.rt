@@ -1,0 +1,75 @@
+// Sets of transitions, numbers below 64: bit t for transition t.
+ghost use mathlib.Core.Path.{_≡_};
+ghost use Prim.Native.Nat.{_+_, _*_, _/_, _%_, _^_, _<_};
+ghost use Rattle.sets.specs.Sets.{has, minus, meets, single, size, lowest};
+
+// Transition t is in the set.
+pub fn has(set: u64, t: usize) -> bool
+    requires { ⌜ t < 64 ⌝ }
+    ensures { λ r. ⌜ r ≡ has set t ⌝ }
+{
+    set >> t & 1 == 1
+}
+
+// The set of t alone.
+pub fn single(t: usize) -> u64
+    requires { ⌜ t < 64 ⌝ }
+    ensures { λ r. ⌜ r ≡ single t ⌝ }
+{
+    1 << t
+}
+
+// How many members the set has.
+pub fn size(set: u64) -> usize
+    ensures { λ r. ⌜ r ≡ size 64 set ⌝ }
+{
+    u64::count_ones(set) as usize
+}
+
+// The lowest member, and 64 for the empty set.
+pub fn lowest(set: u64) -> usize
+    ensures { λ r. ⌜ r ≡ lowest 64 set ⌝ }
+{
+    u64::trailing_zeros(set) as usize
+}
+
+// The set without its lowest member.
+pub fn without_lowest(set: u64) -> u64
+    requires { ⌜ 0 < set ⌝ }
+    ensures { λ r. ⌜ r ≡ minus set (single (lowest 64 set)) ⌝ }
+{
+    set & (set - 1)
+}
+
+// The members of a that are not in b.
+pub fn minus(a: u64, b: u64) -> u64
+    ensures { λ r. ⌜ r ≡ minus a b ⌝ }
+{
+    a & !b
+}
+
+// Some transition is in both.
+pub fn meets(a: u64, b: u64) -> bool
+    ensures { λ r. ⌜ r ≡ meets a b ⌝ }
+{
+    a & b != 0
+}
+
+// The part below 32, the part from 32 on moved down by 32, and the set of two such parts.
+pub fn low(set: u64) -> u32
+    ensures { λ r. ⌜ r ≡ set % 2 ^ 32 ⌝ }
+{
+    (set & 0xffff_ffff) as u32
+}
+
+pub fn high(set: u64) -> u32
+    ensures { λ r. ⌜ r ≡ set / 2 ^ 32 ⌝ }
+{
+    (set >> 32) as u32
+}
+
+pub fn join(low: u32, high: u32) -> u64
+    ensures { λ r. ⌜ r ≡ high * 2 ^ 32 + low ⌝ }
+{
+    (high as u64) << 32 | low as u64
+}
