@@ -4,3 +4,4 @@ pub mod Facts
 pub mod Members
 pub mod Quantifiers
 pub mod Those
+pub mod Loops

@@ -1,0 +1,62 @@
+-- Loops that try a test on 0, 1, .. and leave at the first number that decides: the start, one turn, where it leaves and the
+-- end. And how the code tests a call's result. Assumes nothing.
+use mathlib.Core.Path.{_≡_, refl, sym, ap, _∙_}
+use mathlib.Core.Bool.{Bool, true, false, not, _&&_}
+use Prim.Native.Nat.{ℕ, _+_, _≤_, _<_}
+use native.Mathlib.Nat.{le-antisymm}
+use native.Mathlib.Numerals.{add-one}
+use lib.Dec.{ltb, ltb→lt}
+use borrow.Author.Tests.{not-true, not-false}
+use Rattle.sets.specs.Sets.{some, every}
+use Rattle.sets.proofs.Tests.{is-true, is-false, of-true, of-false, and-r}
+use Rattle.sets.proofs.Facts.{some-i, every-e}
+
+module _ (p : ℕ → Bool) where
+  -- every number below n has p: so far, those below m
+  pub every-start : every 0 p ≡ true
+  unfolding every
+  every-start = refl
+
+  pub every-next : (m : ℕ) → every m p ≡ true → p m ≡ true → every (m + 1) p ≡ true
+  unfolding every
+  every-next m h k = rw (add-one, k) h
+
+  pub every-fails : (n m : ℕ) → m < n → p m ≡ false → every n p ≡ false
+  every-fails n m l k = is-false (every n p) (λ h. of-false k (every-e n p h m l))
+
+  pub every-done : (n m : ℕ) → m ≤ n → n ≤ m → every m p ≡ true → every n p ≡ true
+  every-done n m h k e = ap (λ (i : ℕ). every i p) (le-antisymm k h) ∙ e
+
+  -- some number below n has p: so far, none below m
+  pub some-start : some 0 p ≡ false
+  unfolding some
+  some-start = refl
+
+  pub some-next : (m : ℕ) → some m p ≡ false → p m ≡ false → some (m + 1) p ≡ false
+  unfolding some
+  some-next m h k = rw (add-one, k) h
+
+  pub some-found : (n m : ℕ) → m < n → p m ≡ true → some n p ≡ true
+  some-found n m l k = is-true (some n p) (some-i n p m l (of-true k))
+
+  pub some-done : (n m : ℕ) → m ≤ n → n ≤ m → some m p ≡ false → some n p ≡ false
+  some-done n m h k e = ap (λ (i : ℕ). some i p) (le-antisymm k h) ∙ e
+
+-- ---- a call's result b, which its contract says is c, tested by `if !b`
+pub passed : {b c : Bool} → b ≡ c → not b ≡ false → c ≡ true
+passed {b} e h = sym e ∙ not-false b h
+
+pub failed : {b c : Bool} → b ≡ c → not b ≡ true → c ≡ false
+failed {b} e h = sym e ∙ not-true b h
+
+-- ---- the code's `a && b`, f: it is b where a is true, else a
+module _ (a b f : Bool) where
+  pub and-on : a ≡ true → f ≡ b → f ≡ (a && b)
+  and-on h k = rw h k
+
+  pub and-off : a ≡ false → f ≡ a → f ≡ (a && b)
+  and-off h k = rw h (k ∙ h)
+
+-- what its last test says where all passed
+pub and-last : (a f : Bool) (i n : ℕ) → f ≡ (a && ltb i n) → f ≡ true → i < n
+and-last a f i n h k = ltb→lt i n (and-r a (ltb i n) (of-true (sym h ∙ k)))

@@ -1,0 +1,42 @@
+-- `sheet::hierarchy::contains` meets its contract: a step up leaves containment by a as it was, since a's number is below x's.
+-- The measure is x. Assumes nothing.
+use native.Mathlib.Omega.{arith}
+use borrow.Author.Needs.{needs}
+use mathlib.Core.Path.{_≡_, refl, sym, _∙_}
+use Prim.Native.Nat.{_<_}
+use Rattle.meaning.specs.Sheet.{nOf, contains}
+use Rattle.sheet.proofs.Climb.{parent-lt, parent-n, contains-step, contains-end}
+use Rattle.sheet.proofs.hierarchy.contains.Statement.{statement}
+use Rattle.sheet.proofs.hierarchy.contains.Tie as tie
+
+abbrev Inv-loop : tie.InvT-loop
+Inv-loop sheet a m x₀ x = (x < nOf sheet) × (contains sheet a m ≡ contains sheet a x)
+
+abbrev μ-loop : tie.MeasureT-loop
+μ-loop sheet a m x₀ x = x
+
+loop-holds : tie.Need-loop-holds Inv-loop μ-loop
+loop-holds c = (c .before .pre .1, refl)
+
+parent-requires : tie.Need-parent-requires Inv-loop μ-loop
+parent-requires c κs = search needs
+
+loop-less : tie.Need-loop-less Inv-loop μ-loop
+loop-less c =
+    let l = c .before .before .loop in
+    omega (arith, c .parent .ensures, parent-lt (c .before .before .before .before .pre .0) (l .x) (omega arith) (l .inv .0))
+
+loop-again : tie.Need-loop-again Inv-loop μ-loop
+loop-again c =
+    let l = c .before .before .loop in
+    let tree = c .before .before .before .before .pre .0 in
+    rw (c .parent .ensures) (parent-n tree (l .x) (l .inv .0), l .inv .1 ∙ contains-step tree _ (l .x) (c .before .loop-test .taken) (l .inv .0))
+
+returns : tie.Need-returns Inv-loop μ-loop
+returns c =
+    let l = c .before .loop in
+    sym (l .inv .1 ∙ contains-end (c .before .before .before .pre .0) _ (l .x) (c .loop-test .left) (l .inv .0))
+
+pub contains-spec : {M : Type 1} → statement M
+contains-spec =
+    tie.close (tie.spec Inv-loop μ-loop loop-holds parent-requires loop-less loop-again returns)

@@ -1,0 +1,69 @@
+-- `sheet::hierarchy::meeting_of` meets its contract: a step up leaves the meeting mode as it was, where p does not strictly contain b.
+-- The measure is p. Assumes nothing.
+use native.Mathlib.Omega.{arith}
+use borrow.Author.Needs.{needs}
+use mathlib.Core.Path.{_≡_, sym, _∙_}
+use Prim.Native.Nat.{_<_}
+use Rattle.meaning.specs.Sheet.{nOf, meetingFrom, meetingOf}
+use Rattle.sheet.proofs.Climb.{parent-lt, parent-n, meeting-start, meeting-step, meeting-found, meeting-none}
+use Rattle.sets.proofs.Loops.{passed, failed}
+use Rattle.sheet.proofs.hierarchy.meeting_of.Statement.{statement}
+use Rattle.sheet.proofs.hierarchy.meeting_of.Tie as tie
+
+abbrev Inv-loop : tie.InvT-loop
+Inv-loop sheet a b p₀ p = (p < nOf sheet) × (meetingOf sheet a b ≡ meetingFrom sheet p p b)
+
+abbrev μ-loop : tie.MeasureT-loop
+μ-loop sheet a b p₀ p = p
+
+parent-requires : tie.Need-parent-requires Inv-loop μ-loop
+parent-requires c κs = search needs
+
+loop-holds : tie.Need-loop-holds Inv-loop μ-loop
+loop-holds c =
+    let q = c .before .before .pre in
+    rw (c .parent .ensures) (parent-n (q .0) _ (q .1), meeting-start (q .0) _ _ (q .1))
+
+strictly-contains-requires : tie.Need-strictly-contains-requires Inv-loop μ-loop
+strictly-contains-requires c κs = search needs
+
+parent-requires-2 : tie.Need-parent-requires-2 Inv-loop μ-loop
+parent-requires-2 c κs = search needs
+
+loop-less : tie.Need-loop-less Inv-loop μ-loop
+loop-less c =
+    let l = c .before .before .before .before .loop in
+    omega (arith, c .parent2 .ensures, parent-lt (c .before .before .before .before .before .before .before .pre .0) (l .p) (c .before .before .before .loop-test .taken) (l .inv .0))
+
+loop-again : tie.Need-loop-again Inv-loop μ-loop
+loop-again c =
+    let l = c .before .before .before .before .loop in
+    let tree = c .before .before .before .before .before .before .before .pre .0 in
+    let not-yet = failed (c .before .before .strictly-contains .ensures) (c .before .if1 .taken) in
+    rw (c .parent2 .ensures) (parent-n tree (l .p) (l .inv .0), l .inv .1 ∙ meeting-step tree (l .p) _ (c .before .before .before .loop-test .taken) (l .inv .0) not-yet)
+
+returns : tie.Need-returns Inv-loop μ-loop
+returns c =
+    let l = c .before .before .before .loop in
+    let tree = c .before .before .before .before .before .before .pre .0 in
+    (sym (l .inv .1 ∙ meeting-found tree (l .p) _ (passed (c .before .strictly-contains .ensures) (c .if1 .left))), l .inv .0)
+
+returns-2 : tie.Need-returns-2 Inv-loop μ-loop
+returns-2 c =
+    let l = c .before .loop in
+    (sym (l .inv .1 ∙ meeting-none (c .before .before .before .before .pre .0) (l .p) _ (c .loop-test .left)), l .inv .0)
+
+pub meeting-of-spec : {M : Type 1} → statement M
+meeting-of-spec =
+    tie.close
+    (tie.spec
+    Inv-loop
+    μ-loop
+    parent-requires
+    loop-holds
+    strictly-contains-requires
+    parent-requires-2
+    loop-less
+    loop-again
+    returns
+    returns-2)
