@@ -33,7 +33,7 @@ contains-requires : tie.Need-contains-requires
 contains-requires c κs = (c .before .before .before .before .before .before .pre .0, omega (arith, leb-false))
 
 contains-requires-2 : tie.Need-contains-requires-2
-contains-requires-2 c κs = search needs
+contains-requires-2 c κs = (c .before .before .before .before .before .before .before .before .pre .0, omega (arith, leb-false))
 
 returns-2 : tie.Need-returns-2
 unfolding endOk

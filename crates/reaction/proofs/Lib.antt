@@ -1,0 +1,4 @@
+pub mod PlanLaws
+pub mod TermLaws
+pub mod TriggerLaws
+pub mod RoundLaws

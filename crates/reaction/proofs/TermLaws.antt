@@ -1,0 +1,229 @@
+-- The terms of a transition: their kinds and values in a sheet past 1 to 6, the loop over them, what the words of a tick say of them, and
+-- what terms that speak of events only do not look at. Assumes nothing.
+use mathlib.Core.Path.{_≡_, refl, sym, ap, ap₂, _∙_, subst}
+use mathlib.Core.Logic.{_⊎_, inl, inr}
+use mathlib.Core.Bool.{Bool, true, false, not, _&&_, _||_, cond}
+use mathlib.Core.List.{List, [], _∷_}
+use Prim.Native.Nat.{ℕ, zero, suc, _+_, _-_, _*_, _^_, _≤_, _<_}
+use native.Mathlib.Nat.{le-of-suc-le-suc}
+use native.Mathlib.Numerals.{add-one}
+use native.Mathlib.Omega.{arith}
+use lib.Dec.{T, eqb, leb, ltb, eqb→eq, ltb→lt}
+use lib.Arith.{lt-of-le-ne}
+use lib.ListN.{length, getD}
+use borrow.Author.Tests.{eq-eqb, ne-eqb}
+use Rattle.sets.specs.Sets.{someIn, every}
+use Rattle.sets.proofs.Tests.{of-true, of-false, and-l, and-r, or-e}
+use Rattle.sets.proofs.Facts.{every-e}
+use Rattle.sets.proofs.Membership.{has-none, has-not}
+use Rattle.sets.proofs.Quantifiers.{meets-some}
+use Rattle.meaning.specs.Sheet.{word, nOf, kOf, tOf, offset, termCount, termKind, termValue}
+use Rattle.meaning.specs.Check.{termOk, sheetRefusal}
+use Rattle.meaning.specs.Reaction.{TickSets, isDelay, holds, alternativeFrom, alternative}
+use Rattle.meaning.proofs.SheetLaws.{sound, n-le, k-le, t-le}
+use Rattle.sheet.specs.Reading.{Record}
+use Rattle.sheet.proofs.Laws.{placed}
+use Rattle.reaction.specs.Plan.{isEventKind, eventsOnly}
+use Rattle.reaction.specs.Facts.{factsOf, holdsBy, alternativeByFrom, alternativeBy}
+
+-- ---- kinds and values in a sheet past 1 to 6
+
+getD-true-lt : (l : List Bool) (c : ℕ) → T (getD l c false) → c < length l
+getD-true-lt [] c h = absurd h
+getD-true-lt (b ∷ l) zero h = omega arith
+getD-true-lt (b ∷ l) (suc c) h = omega (arith, getD-true-lt l c h)
+
+-- the conditions of the kinds in a row, where those of kinds 0, 3 and 7 are x, y and z: every other value is a number of an event, a
+-- mode or a transition
+row-small : (n k m v : ℕ) (x y z : Bool) (c : ℕ) → k ≤ 6 → n ≤ 32 → m ≤ 64
+    → T (getD (x ∷ ltb v k ∷ ltb v k ∷ y ∷ ltb v n ∷ ltb v n ∷ ltb v m ∷ z ∷ []) c false)
+    → (c ≡ 0 → ⊥) → (c ≡ 3 → ⊥) → (c ≡ 7 → ⊥) → v < 64
+row-small n k m v x y z zero a b d h p q r = absurd (p refl)
+row-small n k m v x y z (suc zero) a b d h p q r = omega (arith, ltb→lt v k h)
+row-small n k m v x y z (suc (suc zero)) a b d h p q r = omega (arith, ltb→lt v k h)
+row-small n k m v x y z (suc (suc (suc zero))) a b d h p q r = absurd (q refl)
+row-small n k m v x y z (suc (suc (suc (suc zero)))) a b d h p q r = omega (arith, ltb→lt v n h)
+row-small n k m v x y z (suc (suc (suc (suc (suc zero))))) a b d h p q r = omega (arith, ltb→lt v n h)
+row-small n k m v x y z (suc (suc (suc (suc (suc (suc zero)))))) a b d h p q r = omega (arith, ltb→lt v m h)
+row-small n k m v x y z (suc (suc (suc (suc (suc (suc (suc zero))))))) a b d h p q r = absurd (r refl)
+row-small n k m v x y z (suc (suc (suc (suc (suc (suc (suc (suc c)))))))) a b d h p q r = absurd h
+
+-- the conditions of term j of transition t, by its kind
+abbrev conditions : List ℕ → ℕ → ℕ → List Bool
+conditions s t j =
+    let v = termValue s t j in
+    (eqb (termCount s t) 1 && leb v 65535)
+    ∷ ltb v (kOf s)
+    ∷ ltb v (kOf s)
+    ∷ (ltb 0 v && ltb v (2 ^ nOf s))
+    ∷ ltb v (nOf s)
+    ∷ ltb v (nOf s)
+    ∷ ltb v (tOf s)
+    ∷ (eqb v 0 && ltb 0 j && ltb (suc j) (termCount s t) && not (eqb (termKind s t (suc j)) 7))
+    ∷ []
+
+module _ (s : List ℕ) (h : sheetRefusal s ≡ 0) (t j : ℕ) (l : t < tOf s) (k : j < termCount s t) where
+  met : T (getD (conditions s t j) (termKind s t j) false)
+  unfolding termOk
+  met = sound s h .terms t l j k
+
+  met-at : (d : ℕ) → termKind s t j ≡ d → T (getD (conditions s t j) d false)
+  met-at d e = subst (λ (c : ℕ). T (getD (conditions s t j) c false)) e met
+
+  -- a kind is below 8, and 0 for a delay alone
+  kind-lt : termKind s t j < 8
+  kind-lt = getD-true-lt (conditions s t j) (termKind s t j) met
+
+  kind-pos : isDelay s t ≡ false → termKind s t j ≡ 0 → ⊥
+  unfolding isDelay
+  kind-pos d e =
+      let one : termCount s t ≡ 1 = eqb→eq (termCount s t) 1 (and-l (eqb (termCount s t) 1) (leb (termValue s t j) 65535) (met-at 0 e)) in
+      let z : j ≡ 0 = omega arith in
+      of-false d (of-true (eq-eqb (termKind s t 0) 0 (ap (termKind s t) (sym z) ∙ e)))
+
+  -- a value other than a mask is below 64
+  value-small : (termKind s t j ≡ 0 → ⊥) → (termKind s t j ≡ 3 → ⊥) → (termKind s t j ≡ 7 → ⊥) → termValue s t j < 64
+  value-small =
+      let v = termValue s t j in
+      row-small (nOf s) (kOf s) (tOf s) v (eqb (termCount s t) 1 && leb v 65535) (ltb 0 v && ltb v (2 ^ nOf s))
+      (eqb v 0 && ltb 0 j && ltb (suc j) (termCount s t) && not (eqb (termKind s t (suc j)) 7)) (termKind s t j)
+      (k-le s (sound s h)) (n-le s (sound s h)) (t-le s (sound s h)) met
+
+  -- the number of an event, and a mask
+  event-small : termKind s t j ≡ 2 → termValue s t j < 32
+  event-small e = omega (arith, k-le s (sound s h), ltb→lt (termValue s t j) (kOf s) (met-at 2 e))
+
+  mask-lt : termKind s t j ≡ 3 → termValue s t j < 2 ^ nOf s
+  mask-lt e = ltb→lt (termValue s t j) (2 ^ nOf s) (and-r (ltb 0 (termValue s t j)) (ltb (termValue s t j) (2 ^ nOf s)) (met-at 3 e))
+
+  -- what the test of a term of another kind than "or" asks, of words that are its kind and value
+  pub term-asks : isDelay s t ≡ false → (c v : ℕ) → c ≡ termKind s t j → v ≡ termValue s t j → (c ≡ 7 → ⊥) → (c < 7) × ((c ≡ 3 → ⊥) → v < 64)
+  term-asks d c v e f n =
+      let no : (x : ℕ) → (c ≡ x → ⊥) → termKind s t j ≡ x → ⊥ = λ x m k. m (e ∙ k) in (
+        lt-of-le-ne (le-of-suc-le-suc (subst (λ (x : ℕ). x < 8) (sym e) kind-lt)) n,
+        λ m. subst (λ (x : ℕ). x < 64) (sym f) (value-small (kind-pos d) (no 3 m) (no 7 n)),
+      )
+
+-- where the words of term j stand, and how many terms there are
+module _ (s : List ℕ) (t at j : ℕ) (e : at ≡ offset s t) where
+  pub kind-word : getD s (at + 2 + 2 * j) 0 ≡ termKind s t j
+  unfolding termKind word
+  kind-word = rw e
+
+  pub value-word : getD s (at + 2 + 2 * j + 1) 0 ≡ termValue s t j
+  unfolding termValue word
+  value-word = let k : at + 2 + 2 * j + 1 ≡ offset s t + 3 + 2 * j = omega arith in rw k
+
+pub count-le : {s : List ℕ} {t : ℕ} → Record s t → termCount s t ≤ 16
+unfolding termCount
+count-le {s} {t} r = omega (arith, placed r)
+
+-- ---- the loop over the terms: what is left from term j on
+
+module _ (s f : List ℕ) (t : ℕ) where
+  -- the terms from term j on, of alternative a
+  abbrev left : ℕ → ℕ → ℕ → Bool → ℕ
+  left n j a ok = alternativeByFrom s f t (n - j) j a ok
+
+  step : (n j a : ℕ) (ok : Bool) → j < n
+      → left n j a ok
+      ≡ cond (eqb (termKind s t j) 7) (cond ok a (left n (j + 1) (a + 1) true)) (left n (j + 1) a (ok && holdsBy f (termKind s t j) (termValue s t j)))
+  unfolding alternativeByFrom
+  step n j a ok l =
+      let e : n - j ≡ suc (n - (j + 1)) = omega arith in
+      rw (e, add-one j, add-one a)
+
+  -- at an "or" the alternative holds, or the next begins
+  pub or-found : (n j a : ℕ) (ok : Bool) → j < n → termKind s t j ≡ 7 → ok ≡ true → left n j a ok ≡ a
+  or-found n j a ok l e o = step n j a ok l ∙ rw (eq-eqb (termKind s t j) 7 e, o)
+
+  pub or-next : (n j a : ℕ) (ok : Bool) → j < n → termKind s t j ≡ 7 → ok ≡ false → left n (j + 1) (a + 1) true ≡ left n j a ok
+  or-next n j a ok l e o = sym (step n j a ok l ∙ rw (eq-eqb (termKind s t j) 7 e, o))
+
+  -- another term holds, or not
+  pub term-next : (n j a : ℕ) (ok r : Bool) → j < n → (termKind s t j ≡ 7 → ⊥) → r ≡ holdsBy f (termKind s t j) (termValue s t j)
+      → left n (j + 1) a (ok && r) ≡ left n j a ok
+  term-next n j a ok r l e h = sym (step n j a ok l ∙ rw (ne-eqb (termKind s t j) 7 e, h))
+
+  -- no term is left
+  pub terms-end : (n j a : ℕ) (ok : Bool) → n ≤ j → left n j a ok ≡ cond ok a 0
+  unfolding alternativeByFrom
+  terms-end n j a ok l = let e : n - j ≡ 0 = omega arith in rw e
+
+-- ---- the kinds of a term that speak of events
+
+module _ (s : List ℕ) (c : ℕ) where
+  pub event-kind : (c ≡ 1) ⊎ ((c ≡ 2) ⊎ (c ≡ 7)) → isEventKind c ≡ true
+  unfolding isEventKind
+  event-kind (inl e) = rw e
+  event-kind (inr (inl e)) = rw e
+  event-kind (inr (inr e)) = rw e
+
+  pub no-event-kind : (c ≡ 1 → ⊥) → (c ≡ 2 → ⊥) → (c ≡ 7 → ⊥) → isEventKind c ≡ false
+  unfolding isEventKind
+  no-event-kind p q r = rw (ne-eqb c 1 p, ne-eqb c 2 q, ne-eqb c 7 r)
+
+-- ---- the words of a tick say of a term what its sets say
+
+module _ (s : List ℕ) (i : ℕ) (z : TickSets) (b : i < 2 ^ 32) where
+  holds-by : (c v : ℕ) → (c ≡ 2 → v < 32) → (c ≡ 3 → v < 2 ^ nOf s) → holdsBy (factsOf i z) c v ≡ holds s i z c v
+  unfolding holdsBy holds someIn
+  holds-by zero v p q = has-none v
+  holds-by (suc zero) v p q = refl
+  holds-by (suc (suc zero)) v p q = has-not 32 i v b (p refl)
+  holds-by (suc (suc (suc zero))) v p q = meets-some (nOf s) v (z .active) (q refl)
+  holds-by (suc (suc (suc (suc zero)))) v p q = refl
+  holds-by (suc (suc (suc (suc (suc zero))))) v p q = refl
+  holds-by (suc (suc (suc (suc (suc (suc zero)))))) v p q = refl
+  holds-by (suc (suc (suc (suc (suc (suc (suc zero))))))) v p q = has-none v
+  holds-by (suc (suc (suc (suc (suc (suc (suc (suc c)))))))) v p q = rw (ne-eqb (suc (suc (suc (suc (suc (suc (suc (suc c)))))))) 3 (λ e. omega arith)) (has-none v)
+
+  by-from : (t w j a : ℕ) (ok : Bool) → ((u : ℕ) → u < j + w → holdsBy (factsOf i z) (termKind s t u) (termValue s t u) ≡ holds s i z (termKind s t u) (termValue s t u))
+      → alternativeByFrom s (factsOf i z) t w j a ok ≡ alternativeFrom s i z t w j a ok
+  unfolding alternativeByFrom alternativeFrom
+  by-from t zero j a ok h = refl
+  by-from t (suc w) j a ok h =
+      let on : (u : ℕ) → u < suc j + w → holdsBy (factsOf i z) (termKind s t u) (termValue s t u) ≡ holds s i z (termKind s t u) (termValue s t u) = λ u l. h u (omega arith) in
+      ap₂ (λ (x y : ℕ). cond (eqb (termKind s t j) 7) (cond ok a x) y) (by-from t w (suc j) (suc a) true on)
+      (ap (λ (x : Bool). alternativeByFrom s (factsOf i z) t w (suc j) a (ok && x)) (h j (omega arith))
+      ∙ by-from t w (suc j) a (ok && holds s i z (termKind s t j) (termValue s t j)) on)
+
+  pub alternative-by : (t : ℕ) → sheetRefusal s ≡ 0 → t < tOf s → alternativeBy s (factsOf i z) t ≡ alternative s i z t
+  unfolding alternativeBy alternative
+  alternative-by t h l =
+      by-from t (termCount s t) 0 1 true
+      (λ u k. let m : u < termCount s t = omega arith in holds-by (termKind s t u) (termValue s t u) (event-small s h t u l m) (mask-lt s h t u l m))
+
+-- ---- terms that speak of events only say the same on any sets
+
+module _ (s : List ℕ) (i : ℕ) (y z : TickSets) where
+  event-same : (c v : ℕ) → T (isEventKind c) → holds s i y c v ≡ holds s i z c v
+  unfolding isEventKind holds
+  event-same c v h = pick (or-e (eqb c 1 || eqb c 2) (eqb c 7) h)
+    where
+      at : (d : ℕ) → T (eqb c d) → holds s i y d v ≡ holds s i z d v → holds s i y c v ≡ holds s i z c v
+      at d k e = rw (eqb→eq c d k) e
+
+      event : T (eqb c 1) ⊎ T (eqb c 2) → holds s i y c v ≡ holds s i z c v
+      event (inl k) = at 1 k refl
+      event (inr k) = at 2 k refl
+
+      pick : T (eqb c 1 || eqb c 2) ⊎ T (eqb c 7) → holds s i y c v ≡ holds s i z c v
+      pick (inl k) = event (or-e (eqb c 1) (eqb c 2) k)
+      pick (inr k) = at 7 k refl
+
+  same-from : (t w j a : ℕ) (ok : Bool) → ((u : ℕ) → u < j + w → holds s i y (termKind s t u) (termValue s t u) ≡ holds s i z (termKind s t u) (termValue s t u))
+      → alternativeFrom s i y t w j a ok ≡ alternativeFrom s i z t w j a ok
+  unfolding alternativeFrom
+  same-from t zero j a ok h = refl
+  same-from t (suc w) j a ok h =
+      let on : (u : ℕ) → u < suc j + w → holds s i y (termKind s t u) (termValue s t u) ≡ holds s i z (termKind s t u) (termValue s t u) = λ u l. h u (omega arith) in
+      ap₂ (λ (x y : ℕ). cond (eqb (termKind s t j) 7) (cond ok a x) y) (same-from t w (suc j) (suc a) true on)
+      (ap (λ (x : Bool). alternativeFrom s i y t w (suc j) a (ok && x)) (h j (omega arith))
+      ∙ same-from t w (suc j) a (ok && holds s i z (termKind s t j) (termValue s t j)) on)
+
+  pub events-alone : (t : ℕ) → eventsOnly s t ≡ true → alternative s i y t ≡ alternative s i z t
+  unfolding eventsOnly alternative
+  events-alone t e =
+      same-from t (termCount s t) 0 1 true
+      (λ u l. event-same (termKind s t u) (termValue s t u) (every-e (termCount s t) (λ j. isEventKind (termKind s t j)) (of-true e) u (omega arith)))

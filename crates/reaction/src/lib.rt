@@ -1,0 +1,4 @@
+// What is triggered, a round, a tick: on words, by the plan of the sheet.
+pub mod plan;
+pub mod terms;
+pub mod tick;

@@ -1,0 +1,77 @@
+-- Laws of `over`: a row of stores, a row after a row, a part lent and put back. Assumes nothing.
+use mathlib.Core.Path.{_≡_, refl, sym, ap, _∙_}
+use mathlib.Core.List.{List, [], _∷_, _++_, append-assoc, append-nil}
+use Prim.Native.Nat.{ℕ, zero, suc, _+_, _-_, _*_, _≤_, zero-le, _<_}
+use native.Mathlib.Omega.{arith}
+use native.Mathlib.Nat.{zero-add, add-zero, add-assoc, mul-zero, mul-suc}
+use native.Mathlib.Numerals.{add-one}
+use lib.ListN.{length, take, drop, length-append, length-drop, take-append-drop, drop-of-length-le}
+use lib.Seq.{sets, sets-eq, length-take-le, take-all, take-at, drop-append-add, drop-drop}
+use borrow.Rule.Slice.PartMut.{putMid}
+use Rattle.rows.specs.Over.{over}
+
+pub over-def : (l : List ℕ) (at : ℕ) (vs : List ℕ) → over l at vs ≡ take at l ++ vs ++ drop (at + length vs) l
+unfolding over
+over-def l at vs = refl
+
+-- a row of stores
+pub over-sets : (l : List ℕ) (at : ℕ) (vs : List ℕ) → at + length vs ≤ length l → sets l at vs ≡ over l at vs
+unfolding over
+over-sets l at vs h = sets-eq vs l at h
+
+pub over-nil : (l : List ℕ) (at : ℕ) → over l at [] ≡ l
+unfolding over
+over-nil l at = simp (add-zero, append-nil, take-append-drop)
+
+-- at the front: the row, and then what stood after it
+pub over-front : (l vs : List ℕ) → over l 0 vs ≡ vs ++ drop (length vs) l
+unfolding over
+over-front l vs = simp zero-add
+
+module _ (l : List ℕ) (at : ℕ) (vs : List ℕ) (h : at + length vs ≤ length l) where
+  head-length : length (take at l ++ vs) ≡ at + length vs
+  head-length = omega (arith, length-append (take at l) vs, length-take-le at l (omega arith))
+
+  pub length-over : length (over l at vs) ≡ length l
+  unfolding over
+  length-over =
+      let t = drop (at + length vs) l in
+      omega (arith, length-append (take at l ++ vs) t, head-length, length-drop (at + length vs) l)
+
+  take-over : (n : ℕ) → n ≡ at + length vs → take n (over l at vs) ≡ take at l ++ vs
+  unfolding over
+  take-over n e = rw e (take-at (take at l ++ vs) (drop (at + length vs) l) (at + length vs) head-length)
+
+  drop-over : (k : ℕ) → drop (at + length vs + k) (over l at vs) ≡ drop (at + length vs + k) l
+  unfolding over
+  drop-over k =
+      rw (← head-length, drop-append-add (take at l ++ vs) (drop (length (take at l ++ vs)) l) k, drop-drop k (length (take at l ++ vs)) l)
+
+  -- a row, and then the row after it
+  pub over-more : (us : List ℕ) (n : ℕ) → n ≡ at + length vs → over (over l at vs) n us ≡ over l at (vs ++ us)
+  over-more us n e =
+      let k : drop (n + length us) (over l at vs) ≡ drop (at + length (vs ++ us)) l =
+      rw (e, length-append, ← add-assoc) (drop-over (length us)) in
+      cc (over-def (over l at vs) n us, over-def l at (vs ++ us), take-over n e, append-assoc (take at l) vs us)
+
+-- a row put at the front of the part from `off` on
+pub over-part : (l : List ℕ) (off : ℕ) (vs : List ℕ) → off ≤ length l → take off l ++ over (drop off l) 0 vs ≡ over l off vs
+unfolding over
+over-part l off vs h = simp (zero-add, drop-drop, append-assoc)
+
+-- ---- the part from `off` on, as a call that it is lent to sees it, `&mut l[off..]`, and back in its place
+
+module _ (l : List ℕ) (off : ℕ) (h : off ≤ length l) where
+  pub lent-is : take (length l - off) (drop off l) ≡ drop off l
+  lent-is = take-all (length l - off) (drop off l) (omega (arith, length-drop off l))
+
+  pub lent-length : length (take (length l - off) (drop off l)) ≡ length l - off
+  lent-length = rw lent-is (length-drop off l)
+
+  -- a row that was put at the part's front is a row at `off`
+  pub lent-back : (vs part : List ℕ) → part ≡ over (take (length l - off) (drop off l)) 0 vs
+      → putMid off (length l - off) l part ≡ over l off vs
+  lent-back vs part e =
+      let short : length (drop off l) ≤ length l - off = omega (arith, length-drop off l) in
+      let none : drop (length l - off) (drop off l) ≡ [] = drop-of-length-le (drop off l) short in
+      rw (none, append-nil, e, lent-is) (over-part l off vs h)
