@@ -12,7 +12,7 @@ use lib.Dec.{T, eqb, leb, ltb, eqb→eq, ltb→lt}
 use lib.Arith.{lt-of-le-ne}
 use lib.ListN.{length, getD}
 use borrow.Author.Tests.{eq-eqb, ne-eqb}
-use Rattle.sets.specs.Sets.{someIn, every}
+use Rattle.sets.specs.Sets.{someIn}
 use Rattle.sets.proofs.Tests.{of-true, of-false, and-l, and-r, or-e}
 use Rattle.sets.proofs.Facts.{every-e}
 use Rattle.sets.proofs.Membership.{has-none, has-not}

@@ -1,0 +1,4 @@
+pub mod Gather
+pub mod BelowLaws
+pub mod InsideLaws
+pub mod TransitionLaws
