@@ -1,25 +1,26 @@
 -- Laws of readings: every running reading stays 1 to its delay; the rounds of a run. Assumes nothing.
 use mathlib.Core.Path.{_≡_, refl, sym, ap, _∙_, subst}
 use mathlib.Core.Logic.{_⊎_, inl, inr}
-use mathlib.Core.Bool.{Bool, true, false, _&&_, cond}
+use mathlib.Core.Bool.{Bool, true, false, not, _&&_, cond}
 use mathlib.Core.List.{List, [], _∷_}
-use Prim.Native.Nat.{ℕ, _-_, _*_, _≤_, _<_, zero-le}
+use Prim.Native.Nat.{ℕ, _-_, _*_, _^_, _≤_, _<_, zero-le}
 use native.Mathlib.Nat.{zero-add, mul-suc, lt-of-lt-of-le}
 use native.Mathlib.Omega.{arith}
-use lib.Dec.{T, eqb, ltb, ltb→lt}
+use lib.Dec.{T, eqb, leb, ltb, eqb→eq, leb→le, ltb→lt}
 use lib.ListN.{getD}
 use borrow.Author.Tests.{eqb-false}
 use Rattle.sets.specs.Sets.{has}
-use Rattle.sets.proofs.Tests.{is-true, is-false, and-r, and-i}
+use Rattle.sets.proofs.Tests.{is-true, is-false, and-l, and-r, and-i}
 use Rattle.sets.proofs.Membership.{has-none}
 use Rattle.sets.proofs.Those.{has-those}
-use Rattle.meaning.specs.Sheet.{kOf, tOf, source}
+use Rattle.meaning.specs.Sheet.{nOf, kOf, tOf, recordLength, source, termCount, termKind, termValue}
+use Rattle.meaning.specs.Check.{pairOk, termOk}
 use Rattle.meaning.specs.Reaction.{TickSets, isDelay, delay, isTimer, running}
 use Rattle.meaning.specs.Tick.{Tick, tick, fiveWords}
 use Rattle.meaning.specs.Run.{State, reading, dueTimers, nextReadings, Ticks, stops, tickThen, inputForeign}
 use Rattle.meaning.specs.SheetRun.{tickFrom, stateAfter, sheetTicks}
 use Rattle.meaning.specs.Promises.{RunRounds}
-use Rattle.meaning.proofs.ListLaws.{rowFrom-at}
+use Rattle.meaning.proofs.ListLaws.{allOf-e, rowFrom-at}
 use Rattle.meaning.proofs.SheetLaws.{Sound, t-le}
 use Rattle.meaning.proofs.TickLaws.{kept, not-due, rounds-le, Runs, running-e, running-i}
 
@@ -41,6 +42,28 @@ due-at timers q t l = has-those 64 timers (λ u. eqb (reading q u - 1) 0) t l
 pub delay-pos : (s : List ℕ) (t : ℕ) → T (isTimer s t) → 1 ≤ delay s t
 unfolding isTimer
 delay-pos s t h = ltb→lt 0 (delay s t) (and-r (isDelay s t) (ltb 0 (delay s t)) h)
+
+-- and at most 65,535
+module _ (s : List ℕ) (sd : Sound s) where
+  has-term : (t : ℕ) → t < tOf s → 0 < termCount s t
+  unfolding termCount pairOk
+  has-term t l = let h = leb→le 4 (recordLength s t) (allOf-e _ (sd .pairs t l) .1 .1 .0) in omega arith
+
+  first-term : (t : ℕ) → T (termOk s t 0) → termKind s t 0 ≡ 0 → termValue s t 0 ≤ 65535
+  unfolding termOk
+  first-term t h z =
+      leb→le (termValue s t 0) 65535
+      (and-r (eqb (termCount s t) 1) (leb (termValue s t 0) 65535)
+      (subst (λ (k : ℕ). T (getD
+      ((eqb (termCount s t) 1 && leb (termValue s t 0) 65535) ∷ ltb (termValue s t 0) (kOf s) ∷ ltb (termValue s t 0) (kOf s)
+      ∷ (ltb 0 (termValue s t 0) && ltb (termValue s t 0) (2 ^ nOf s)) ∷ ltb (termValue s t 0) (nOf s) ∷ ltb (termValue s t 0) (nOf s) ∷ ltb (termValue s t 0) (tOf s)
+      ∷ (eqb (termValue s t 0) 0 && ltb 0 0 && ltb 1 (termCount s t) && not (eqb (termKind s t 1) 7)) ∷ []) k false)) z h))
+
+  pub delay-small : (t : ℕ) → t < tOf s → T (isTimer s t) → delay s t < 65536
+  unfolding isTimer isDelay delay
+  delay-small t l h =
+      let z = eqb→eq (termKind s t 0) 0 (and-l (isDelay s t) (ltb 0 (delay s t)) h) in
+      omega (arith, first-term t (sd .terms t l 0 (has-term t l)) z)
 
 module _ (s : List ℕ) where
   -- every running reading is 1 to its delay

@@ -1,22 +1,21 @@
 -- A tick of the table's run is a tick of the sheet. Assumes nothing.
 use mathlib.Core.Path.{_≡_, refl, sym, ap, ap₂, _∙_, subst}
-use mathlib.Core.Bool.{Bool, true, false, not, _&&_, cond}
+use mathlib.Core.Bool.{Bool, true, false, cond}
 use mathlib.Core.List.{List, [], _∷_, _++_}
 use Prim.Native.Nat.{ℕ, suc, _+_, _-_, _*_, _/_, _%_, _^_, _≤_, _<_}
 use native.Mathlib.Nat.{suc-ne-zero, zero-lt-suc}
 use native.Mathlib.Omega.{arith}
-use lib.Dec.{T, eqb, leb, ltb, eqb→eq, leb→le, leb·suc-suc}
+use lib.Dec.{T, eqb, ltb, eqb→eq, leb·suc-suc}
 use lib.Arith.{digits-lt, digits-div, digits-mod}
 use lib.Pow.{pow-add}
 use lib.ListN.{length, getD}
 use borrow.Author.Tests.{eq-eqb, leb-false, lt-ltb}
 use Rattle.sets.specs.Sets.{has, members, size, someIn}
-use Rattle.sets.proofs.Tests.{is-true, is-false, and-l, and-r, cond-ext}
+use Rattle.sets.proofs.Tests.{is-true, is-false, cond-ext}
 use Rattle.sets.proofs.Facts.{someIn-e}
 use Rattle.meaning.specs.Lists.{rowFrom, isIn, place}
-use Rattle.meaning.specs.Sheet.{nOf, kOf, tOf, recordLength, source, termCount, termKind, termValue}
-use Rattle.meaning.specs.Check.{pairOk, termOk}
-use Rattle.meaning.specs.Reaction.{TickSets, isDelay, delay, isTimer, running}
+use Rattle.meaning.specs.Sheet.{kOf, tOf, source}
+use Rattle.meaning.specs.Reaction.{TickSets, delay, isTimer, running}
 use Rattle.meaning.specs.Tick.{Tick, tick, fiveWords}
 use Rattle.meaning.specs.Run.{State, reading, dueTimers, nextReadings, Ticks, stops, tickThen, inputForeign}
 use Rattle.meaning.specs.SheetRun.{tickFrom, stateAfter, sheetTicks}
@@ -24,11 +23,11 @@ use Rattle.meaning.specs.Table.{kIn, sourceIn, delayIn, timersIn, cellWo
 use Rattle.meaning.specs.TableRun.{dueNumber, cellOf, stateAfterCell, isStale, tableTicks}
 use Rattle.meaning.specs.Compile.{dueSet, cellCount, cellTick, cellWords, timerWord}
 use Rattle.meaning.specs.WholeList.{legal}
-use Rattle.meaning.proofs.ListLaws.{allOf-e, rowFrom-ext}
+use Rattle.meaning.proofs.ListLaws.{rowFrom-ext}
 use Rattle.meaning.proofs.ListedLaws.{place-at}
 use Rattle.meaning.proofs.SheetLaws.{Sound}
 use Rattle.meaning.proofs.TickLaws.{running-e}
-use Rattle.meaning.proofs.RunLaws.{Right, right-next}
+use Rattle.meaning.proofs.RunLaws.{delay-small, Right, right-next}
 use Rattle.meaning.proofs.WalkLaws.{Closed}
 use Rattle.meaning.proofs.TableLaws.{tbl, maskOf, k-in, timer-word, timers-in, cell-in, dueSet-dueTimers, dueNumber-lt}
 
@@ -52,37 +51,17 @@ module _ (s : List ℕ) (sd : Sound s) (listed : List ℕ) where
   t = tbl s listed
 
   -- a timer's word: source and delay
-  has-term : (u : ℕ) → u < tOf s → 0 < termCount s u
-  unfolding termCount pairOk
-  has-term u l = let h = leb→le 4 (recordLength s u) (allOf-e _ (sd .pairs u l) .1 .1 .0) in omega arith
-
-  first-term : (u : ℕ) → T (termOk s u 0) → termKind s u 0 ≡ 0 → termValue s u 0 ≤ 65535
-  unfolding termOk
-  first-term u h z =
-      leb→le (termValue s u 0) 65535
-      (and-r (eqb (termCount s u) 1) (leb (termValue s u 0) 65535)
-      (subst (λ (k : ℕ). T (getD
-      ((eqb (termCount s u) 1 && leb (termValue s u 0) 65535) ∷ ltb (termValue s u 0) (kOf s) ∷ ltb (termValue s u 0) (kOf s)
-      ∷ (ltb 0 (termValue s u 0) && ltb (termValue s u 0) (2 ^ nOf s)) ∷ ltb (termValue s u 0) (nOf s) ∷ ltb (termValue s u 0) (nOf s) ∷ ltb (termValue s u 0) (tOf s)
-      ∷ (eqb (termValue s u 0) 0 && ltb 0 0 && ltb 1 (termCount s u) && not (eqb (termKind s u 1) 7)) ∷ []) k false)) z h))
-
-  delay-small : (u : ℕ) → u < tOf s → T (isTimer s u) → delay s u < 65536
-  unfolding isTimer isDelay delay
-  delay-small u l h =
-      let z = eqb→eq (termKind s u 0) 0 (and-l (isDelay s u) (ltb 0 (delay s u)) h) in
-      omega (arith, first-term u (sd .terms u l 0 (has-term u l)) z)
-
   pub source-in : (u : ℕ) → u < tOf s → T (isTimer s u) → sourceIn t u ≡ source s u
   unfolding sourceIn timerWord
   source-in u l h =
       ap (λ (x : ℕ). x / 65536) (timer-word s listed u l ∙ ap (λ (b : Bool). cond b (source s u * 65536 + delay s u) 0) (is-true (isTimer s u) h))
-      ∙ digits-div (source s u) (delay-small u l h)
+      ∙ digits-div (source s u) (delay-small s sd u l h)
 
   pub delay-in : (u : ℕ) → u < tOf s → T (isTimer s u) → delayIn t u ≡ delay s u
   unfolding delayIn timerWord
   delay-in u l h =
       ap (λ (x : ℕ). x % 65536) (timer-word s listed u l ∙ ap (λ (b : Bool). cond b (source s u * 65536 + delay s u) 0) (is-true (isTimer s u) h))
-      ∙ digits-mod (source s u) (delay-small u l h)
+      ∙ digits-mod (source s u) (delay-small s sd u l h)
 
   -- the table's state q stands for the sheet's state p
   pub record Stands (q p : State) : Type 0 where

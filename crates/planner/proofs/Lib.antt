@@ -1,0 +1,7 @@
+pub mod PartLaws
+pub mod SetLoop
+pub mod SourceLaws
+pub mod ConflictLaws
+pub mod ClassLaws
+pub mod HitLaws
+pub mod Assembly

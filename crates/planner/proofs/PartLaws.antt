@@ -1,0 +1,154 @@
+-- A part of the plan: a row of words laid over the plan at its place. What is read of it and beside it, and how a loop lays it.
+-- Assumes nothing.
+use mathlib.Core.Path.{_≡_, refl, sym, ap, _∙_}
+use mathlib.Core.Logic.{_⊎_, inl, inr}
+use mathlib.Core.List.{List, [], _∷_, _++_}
+use Prim.Native.Nat.{ℕ, _+_, _-_, _≤_, _<_}
+use native.Mathlib.Nat.{zero-add}
+use native.Mathlib.Decide.{ℕ-discrete, decLe, decLt}
+use native.Mathlib.Omega.{arith}
+use lib.ListN.{length, getD, set, take, drop, length-append, length-set, List·getD-append}
+use lib.Seq.{length-take-le, ext-getD, getD-take, getD-drop, getD-append-add, getD-set-same, getD-set-other}
+use Rattle.rows.specs.Over.{over}
+use Rattle.rows.proofs.Laws.{length-over, over-nil, over-sets}
+use Rattle.meaning.specs.Lists.{rowFrom}
+use Rattle.meaning.proofs.ListLaws.{rowFrom-at, rowFrom-length}
+use Rattle.planner.specs.Parts.{Part}
+
+-- ---- one word of a list with words laid over it
+
+module _ (l : List ℕ) (at : ℕ) (vs : List ℕ) (h : at + length vs ≤ length l) where
+  seam : length (take at l) ≡ at
+  seam = length-take-le at l (omega arith)
+
+  after-seam : length (take at l ++ vs) ≡ at + length vs
+  after-seam = omega (arith, length-append (take at l) vs, seam)
+
+  over-before : (i : ℕ) → i < at → getD (over l at vs) i 0 ≡ getD l i 0
+  unfolding over
+  over-before i k =
+      List·getD-append (take at l ++ vs) (drop (at + length vs) l) 0 i (omega (arith, after-seam))
+      ∙ List·getD-append (take at l) vs 0 i (omega (arith, seam))
+      ∙ getD-take at l i 0 k
+
+  over-in : (i : ℕ) → i < length vs → getD (over l at vs) (at + i) 0 ≡ getD vs i 0
+  unfolding over
+  over-in i k =
+      List·getD-append (take at l ++ vs) (drop (at + length vs) l) 0 (at + i) (omega (arith, after-seam))
+      ∙ ap (λ (n : ℕ). getD (take at l ++ vs) (n + i) 0) (sym seam)
+      ∙ getD-append-add (take at l) vs i 0
+
+  over-after : (i : ℕ) → getD (over l at vs) (at + length vs + i) 0 ≡ getD l (at + length vs + i) 0
+  unfolding over
+  over-after i =
+      ap (λ (n : ℕ). getD (take at l ++ vs ++ drop (at + length vs) l) (n + i) 0) (sym after-seam)
+      ∙ getD-append-add (take at l ++ vs) (drop (at + length vs) l) i 0
+      ∙ getD-drop (at + length vs) l i 0
+
+  over-out : (i : ℕ) → (at ≤ i → i < at + length vs → ⊥) → getD (over l at vs) i 0 ≡ getD l i 0
+  over-out i k = go (decLt i at) (decLt i (at + length vs))
+    where
+      go : Dec (i < at) → Dec (i < at + length vs) → getD (over l at vs) i 0 ≡ getD l i 0
+      go (yes b) e = over-before i b
+      go (no b) (yes e) = absurd (k (omega arith) e)
+      go (no b) (no e) =
+          let j : at + length vs + (i - (at + length vs)) ≡ i = omega arith in
+          rw j at (over-after (i - (at + length vs)))
+
+-- ---- a part: the row f 0, f 1, .. of w words at its place
+
+module _ (l : List ℕ) (at w : ℕ) (f : ℕ → ℕ) (h : at + w ≤ length l) where
+  fits : at + length (rowFrom 0 w f) ≤ length l
+  fits = rw (rowFrom-length f 0 w) h
+
+  pub part-length : length (over l at (rowFrom 0 w f)) ≡ length l
+  part-length = length-over l at (rowFrom 0 w f) fits
+
+  -- a word of it, and a word beside it
+  pub part-in : (t : ℕ) → t < w → getD (over l at (rowFrom 0 w f)) (at + t) 0 ≡ f t
+  part-in t k =
+      over-in l at (rowFrom 0 w f) fits t (omega (arith, rowFrom-length f 0 w)) ∙ rowFrom-at f 0 0 w t k ∙ ap f (zero-add t)
+
+  pub part-out : (i : ℕ) → (at ≤ i → i < at + w → ⊥) → getD (over l at (rowFrom 0 w f)) i 0 ≡ getD l i 0
+  part-out i k = over-out l at (rowFrom 0 w f) fits i (λ a b. k a (omega (arith, rowFrom-length f 0 w)))
+
+  pub part-beside : (b v : ℕ) (g : ℕ → ℕ) → (b + v ≤ at) ⊎ (at + w ≤ b) → Part l b v g → Part (over l at (rowFrom 0 w f)) b v g
+  part-beside b v g (inl k) p t a = part-out (b + t) (λ x y. omega arith) ∙ p t a
+  part-beside b v g (inr k) p t a = part-out (b + t) (λ x y. omega arith) ∙ p t a
+
+  -- a list with these words, and with the others as they were
+  pub part-is : (m : List ℕ) → length m ≡ length l → ((t : ℕ) → t < w → getD m (at + t) 0 ≡ f t)
+      → ((i : ℕ) → (at ≤ i → i < at + w → ⊥) → getD m i 0 ≡ getD l i 0)
+      → m ≡ over l at (rowFrom 0 w f)
+  part-is m e inside outside = ext-getD 0 m (over l at (rowFrom 0 w f)) (e ∙ sym part-length) (λ i k. at-word i (decLe at i) (decLt i (at + w)))
+    where
+      beside : (i : ℕ) → (at ≤ i → i < at + w → ⊥) → getD m i 0 ≡ getD (over l at (rowFrom 0 w f)) i 0
+      beside i k = outside i k ∙ sym (part-out i k)
+
+      at-word : (i : ℕ) → Dec (at ≤ i) → Dec (i < at + w) → getD m i 0 ≡ getD (over l at (rowFrom 0 w f)) i 0
+      at-word i (no a) b = beside i (λ x y. a x)
+      at-word i (yes a) (no b) = beside i (λ x y. b y)
+      at-word i (yes a) (yes b) =
+          let k : i - at < w = omega arith in
+          let j : at + (i - at) ≡ i = omega arith in
+          rw j at (inside (i - at) k ∙ sym (part-in (i - at) k))
+
+-- a loop that lays a part: its start, and one turn
+module _ (l : List ℕ) (at : ℕ) (f : ℕ → ℕ) where
+  pub part-none : l ≡ over l at (rowFrom 0 0 f)
+  unfolding rowFrom
+  part-none = sym (over-nil l at)
+
+  next : (t : ℕ) → at + t < length l → set (over l at (rowFrom 0 t f)) (at + t) (f t) ≡ over l at (rowFrom 0 (t + 1) f)
+  next t k =
+      let h : at + t ≤ length l = omega arith in
+      let m = over l at (rowFrom 0 t f) in
+      let long : length m ≡ length l = part-length l at t f h in
+      part-is l at (t + 1) f (omega arith) (set m (at + t) (f t)) (length-set m (at + t) (f t) ∙ long)
+      (λ u a. inside u a (ℕ-discrete u t))
+      (λ i a. getD-set-other m (at + t) i (f t) 0 (λ e. a (omega arith) (omega arith)) ∙ part-out l at t f h i (λ x y. a x (omega arith)))
+    where
+      inside : (u : ℕ) → u < t + 1 → Dec (u ≡ t) → getD (set (over l at (rowFrom 0 t f)) (at + t) (f t)) (at + u) 0 ≡ f u
+      inside u a (yes e) =
+          rw e (getD-set-same (over l at (rowFrom 0 t f)) (at + t) (f t) 0 (omega (arith, part-length l at t f (omega arith))))
+      inside u a (no e) =
+          getD-set-other (over l at (rowFrom 0 t f)) (at + t) (at + u) (f t) 0 (λ x. e (omega arith))
+          ∙ part-in l at t f (omega arith) u (omega arith)
+
+  pub part-turn : (t : ℕ) {m : List ℕ} {r : ℕ} → at + t < length l → m ≡ over l at (rowFrom 0 t f) → r ≡ f t
+      → set m (at + t) r ≡ over l at (rowFrom 0 (t + 1) f)
+  part-turn t k e a = rw (e, a) (next t k)
+
+  -- where it ends
+  pub part-width : {t w : ℕ} → t ≡ w → over l at (rowFrom 0 t f) ≡ over l at (rowFrom 0 w f)
+  part-width e = rw e
+
+-- the same for a row at the front of a list
+pub front-turn : (l : List ℕ) (f : ℕ → ℕ) (t : ℕ) {m : List ℕ} {r : ℕ} → t < length l → m ≡ over l 0 (rowFrom 0 t f) → r ≡ f t
+    → set m t r ≡ over l 0 (rowFrom 0 (t + 1) f)
+front-turn l f t k e a = rw zero-add at (part-turn l 0 f t (rw zero-add k) e a)
+
+pub front-in : (l : List ℕ) (w : ℕ) (f : ℕ → ℕ) → w ≤ length l → (t : ℕ) → t < w → getD (over l 0 (rowFrom 0 w f)) t 0 ≡ f t
+front-in l w f h t k = rw zero-add at (part-in l 0 w f (rw zero-add h) t k)
+
+-- a loop that changes a part word by word: its start, and one turn
+pub part-same : (l : List ℕ) (at w : ℕ) (f : ℕ → ℕ) → at + w ≤ length l → Part l at w f → l ≡ over l at (rowFrom 0 w f)
+part-same l at w f h k = part-is l at w f h l refl k (λ i a. refl)
+
+pub part-set : (l : List ℕ) (at w : ℕ) (f g : ℕ → ℕ) (k : ℕ) → at + w ≤ length l → k < w → ((m : ℕ) → (m ≡ k → ⊥) → f m ≡ g m)
+    → set (over l at (rowFrom 0 w f)) (at + k) (g k) ≡ over l at (rowFrom 0 w g)
+part-set l at w f g k h b e =
+    part-is l at w g h (set m (at + k) (g k)) (length-set m (at + k) (g k) ∙ part-length l at w f h) (λ u a. inside u a (ℕ-discrete u k))
+    (λ i a. getD-set-other m (at + k) i (g k) 0 (λ x. a (omega arith) (omega arith)) ∙ part-out l at w f h i a)
+  where
+    m : List ℕ
+    m = over l at (rowFrom 0 w f)
+
+    inside : (u : ℕ) → u < w → Dec (u ≡ k) → getD (set m (at + k) (g k)) (at + u) 0 ≡ g u
+    inside u a (yes x) = rw x (getD-set-same m (at + k) (g k) 0 (omega (arith, part-length l at w f h)))
+    inside u a (no x) = getD-set-other m (at + k) (at + u) (g k) 0 (λ y. x (omega arith)) ∙ part-in l at w f h u a ∙ e u x
+
+-- a part of one word
+pub part-word : (l : List ℕ) (at v : ℕ) → at < length l → set l at v ≡ over l at (rowFrom 0 1 (λ _. v))
+unfolding rowFrom
+part-word l at v h = over-sets l at (v ∷ []) (omega arith)

@@ -1,0 +1,83 @@
+-- `planner::ends::put_enters` meets its contract. Assumes nothing.
+use mathlib.Core.Path.{_≡_, _∙_}
+use Prim.Native.Nat.{_-_, _≤_, _<_}
+use native.Mathlib.Omega.{arith}
+use borrow.Author.Needs.{needs}
+use Rattle.rows.specs.Over.{over}
+use Rattle.meaning.specs.Lists.{rowFrom}
+use Rattle.meaning.specs.Sheet.{tOf}
+use Rattle.meaning.specs.Hierarchy.{enters}
+use Rattle.meaning.proofs.SheetLaws.{sound, t-le}
+use Rattle.sheet.proofs.Past.{head-read}
+use Rattle.planner.proofs.PartLaws.{part-none, part-turn, part-width}
+use Rattle.planner.proofs.ends.put_enters.Statement.{statement}
+use Rattle.planner.proofs.ends.put_enters.Tie as tie
+
+abbrev Inv-loop : tie.InvT-loop
+Inv-loop sheet plan₀ count t₀ plan t = (t ≤ tOf sheet) × (plan ≡ over plan₀ 64 (rowFrom 0 t (enters sheet)))
+
+abbrev μ-loop : tie.MeasureT-loop
+μ-loop sheet plan₀ count t₀ plan t = tOf sheet - t
+
+transition-count-requires : tie.Need-transition-count-requires Inv-loop μ-loop
+transition-count-requires c κs = head-read (c .before .args .sheet .now) (c .before .pre .0)
+
+loop-holds : tie.Need-loop-holds Inv-loop μ-loop
+loop-holds c = (omega arith, part-none (c .before .before .args .plan .now) 64 _)
+
+small : (c : tie.In-loop Inv-loop μ-loop) → c .before .loop .t < 64
+small c =
+    let b = c .before .before .before .before in
+    omega (arith, t-le (b .args .sheet .now) (sound (b .args .sheet .now) (b .pre .0)))
+
+entered-by-requires : tie.Need-entered-by-requires Inv-loop μ-loop
+entered-by-requires c κs =
+    let b = c .before .before .before .before in
+    (b .pre .0, omega arith)
+
+cast-plan : tie.Need-cast-plan Inv-loop μ-loop
+cast-plan c = search needs
+
+add-plan : tie.Need-add-plan Inv-loop μ-loop
+add-plan c = omega (arith, small (c .before))
+
+mul-plan : tie.Need-mul-plan Inv-loop μ-loop
+mul-plan c = omega (arith, small (c .before))
+
+element-write-plan : tie.Need-element-write-plan Inv-loop μ-loop
+element-write-plan c = omega (arith, small (c .before))
+
+add-t : tie.Need-add-t Inv-loop μ-loop
+add-t c = omega (arith, small (c .before))
+
+loop-less : tie.Need-loop-less Inv-loop μ-loop
+loop-less c = omega arith
+
+loop-again : tie.Need-loop-again Inv-loop μ-loop
+loop-again c =
+    let b = c .before .before .before .before .before in
+    let l = c .before .before .loop in
+    (omega arith, part-turn (b .args .plan .now) 64 (enters (b .args .sheet .now)) (l .t) (omega (arith, small (c .before))) (l .inv .1) (c .entered-by .ensures))
+
+returns : tie.Need-returns Inv-loop μ-loop
+returns c =
+    let b = c .before .before .before .before in
+    c .before .loop .inv .1 ∙ part-width (b .args .plan .now) 64 (enters (b .args .sheet .now)) (omega arith)
+
+pub put-enters-spec : {M : Type 1} → statement M
+put-enters-spec =
+    tie.close
+    (tie.spec
+    Inv-loop
+    μ-loop
+    transition-count-requires
+    loop-holds
+    entered-by-requires
+    cast-plan
+    add-plan
+    mul-plan
+    element-write-plan
+    add-t
+    loop-less
+    loop-again
+    returns)

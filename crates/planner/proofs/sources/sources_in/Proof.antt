@@ -1,0 +1,78 @@
+-- `planner::sources::sources_in` meets its contract. The loop's invariant: the union over the modes left, from here, is the union over
+-- all from nothing. Assumes nothing.
+use mathlib.Core.Path.{_≡_, refl, sym, _∙_}
+use Prim.Native.Nat.{ℕ, _+_, _^_, _<_}
+use native.Mathlib.Omega.{arith}
+use borrow.Author.Needs.{needs}
+use lib.ListN.{getD}
+use lib.Pow.{pow-pos}
+use Rattle.sets.specs.Sets.{union, minus, single, members, lowest}
+use Rattle.sets.proofs.Membership.{union-lt}
+use Rattle.sets.proofs.Members.{Turn, turn, fold, fold-turn, fold-done}
+use Rattle.meaning.specs.Sheet.{tOf}
+use Rattle.planner.proofs.SourceLaws.{from-lt, from-over}
+use Rattle.planner.proofs.sources.sources_in.Statement.{statement}
+use Rattle.planner.proofs.sources.sources_in.Tie as tie
+
+abbrev Inv-loop : tie.InvT-loop
+Inv-loop sheet plan set r₀ rest₀ r rest =
+    (rest < 2 ^ 32)
+    × (r < 2 ^ tOf sheet)
+    × (fold (λ a m. union a (getD plan (512 + m) 0)) r (members 32 rest) ≡ fold (λ a m. union a (getD plan (512 + m) 0)) 0 (members 32 set))
+
+abbrev μ-loop : tie.MeasureT-loop
+μ-loop sheet plan set r₀ rest₀ r rest = rest
+
+loop-holds : tie.Need-loop-holds Inv-loop μ-loop
+loop-holds c = (c .before .fits .set .fits, pow-pos _, refl)
+
+known : (c : tie.After-lowest Inv-loop μ-loop) {r : ℕ} → r ≡ minus (c .before .before .loop .rest) (single (lowest 32 (c .before .before .loop .rest)))
+    → Turn 32 (c .before .before .loop .rest) (c .lowest .result) r
+known c e = turn 32 (c .before .before .loop .rest) (c .before .before .loop .inv .0) (c .before .loop-test .taken) (c .lowest .ensures) e
+
+lowest-requires : tie.Need-lowest-requires Inv-loop μ-loop
+lowest-requires c κs = search needs
+
+add-r : tie.Need-add-r Inv-loop μ-loop
+add-r c = omega (arith, known c refl .lowest .small)
+
+mul-r : tie.Need-mul-r Inv-loop μ-loop
+mul-r c = omega (arith, known c refl .lowest .small)
+
+element-copy-out-r : tie.Need-element-copy-out-r Inv-loop μ-loop
+element-copy-out-r c = omega (arith, known c refl .lowest .small)
+
+without-lowest-requires : tie.Need-without-lowest-requires Inv-loop μ-loop
+without-lowest-requires c κs = known (c .before) refl .filled
+
+loop-less : tie.Need-loop-less Inv-loop μ-loop
+loop-less c = known (c .before .before) (c .without-lowest .ensures) .less
+
+loop-again : tie.Need-loop-again Inv-loop μ-loop
+loop-again c =
+    let u = known (c .before .before) (c .without-lowest .ensures) in
+    let l = c .before .before .before .before .loop in
+    let before = c .before .before .before .before .before .before in
+    (u .fits, union-lt (tOf (before .args .sheet .now)) (l .inv .1) (from-lt (before .args .sheet .now) (before .args .plan .now) (before .pre) _ (u .lowest .small)), fold-turn _ _ u ∙ l .inv .2)
+
+returns : tie.Need-returns Inv-loop μ-loop
+returns c =
+    let l = c .before .loop in
+    let before = c .before .before .before in
+    from-over (before .args .sheet .now) (before .args .plan .now) (before .pre) _ _ (before .fits .set .fits) (l .inv .1) (sym (fold-done _ _ 32 (l .rest) (c .loop-test .left)) ∙ l .inv .2)
+
+pub sources-in-spec : {M : Type 1} → statement M
+sources-in-spec =
+    tie.close
+    (tie.spec
+    Inv-loop
+    μ-loop
+    loop-holds
+    lowest-requires
+    add-r
+    mul-r
+    element-copy-out-r
+    without-lowest-requires
+    loop-less
+    loop-again
+    returns)

@@ -1,0 +1,126 @@
+// Timers, the transitions that input sets trigger by themselves, and the rest.
+ghost use mathlib.Core.Path.{_≡_};
+ghost use Prim.Native.Nat.{_<_, _≤_};
+ghost use lib.ListN.{length};
+ghost use Rattle.sets.specs.Sets.{below};
+ghost use Rattle.rows.specs.Over.{over};
+ghost use Rattle.meaning.specs.Lists.{rowFrom};
+ghost use Rattle.meaning.specs.Sheet.{tOf};
+ghost use Rattle.meaning.specs.Check.{sheetRefusal};
+ghost use Rattle.meaning.specs.Reaction.{isDelay, delay, isTimer};
+ghost use Rattle.reaction.specs.Plan.{timers, mixed};
+ghost use Rattle.planner.specs.Parts.{isSure, sure, delayOf};
+use reaction::plan::DELAYS;
+use reaction::plan::Plan;
+use reaction::terms::events_only;
+use sets::transitions;
+use sheet::words::term_kind;
+use sheet::words::term_value;
+use sheet::words::transition_count;
+
+// Transition t has a delay; the delay, then; and it is 1 or more.
+pub fn is_delay(sheet: &[u32], t: usize) -> bool
+    requires { ⌜ (sheetRefusal (now sheet) ≡ 0) × (t < tOf (now sheet)) ⌝ }
+    ensures { λ r. ⌜ r ≡ isDelay (now (sheet .entry)) t ⌝ }
+{
+    term_kind(sheet, t, 0) == 0
+}
+
+fn delay(sheet: &[u32], t: usize) -> u32
+    requires { ⌜ (sheetRefusal (now sheet) ≡ 0) × (t < tOf (now sheet)) ⌝ }
+    ensures { λ r. ⌜ r ≡ delay (now (sheet .entry)) t ⌝ }
+{
+    term_value(sheet, t, 0)
+}
+
+fn is_timer(sheet: &[u32], t: usize) -> bool
+    requires { ⌜ (sheetRefusal (now sheet) ≡ 0) × (t < tOf (now sheet)) ⌝ }
+    ensures { λ r. ⌜ r ≡ isTimer (now (sheet .entry)) t ⌝ }
+{
+    is_delay(sheet, t) && 0 < delay(sheet, t)
+}
+
+// Transition t has delay 0, or event terms alone.
+fn is_sure(sheet: &[u32], t: usize) -> bool
+    requires { ⌜ (sheetRefusal (now sheet) ≡ 0) × (t < tOf (now sheet)) ⌝ }
+    ensures { λ r. ⌜ r ≡ isSure (now (sheet .entry)) t ⌝ }
+{
+    if is_delay(sheet, t) {
+        return delay(sheet, t) == 0;
+    }
+    events_only(sheet, t)
+}
+
+pub fn timers(sheet: &[u32]) -> u64
+    requires { ⌜ sheetRefusal (now sheet) ≡ 0 ⌝ }
+    ensures { λ r. ⌜ r ≡ timers (now (sheet .entry)) ⌝ }
+{
+    let count = transition_count(sheet);
+    let mut r = 0u64;
+    let mut t = 0;
+    while t < count {
+        if is_timer(sheet, t) {
+            r |= transitions::single(t);
+        }
+        t += 1;
+    }
+    r
+}
+
+pub fn sure(sheet: &[u32]) -> u64
+    requires { ⌜ sheetRefusal (now sheet) ≡ 0 ⌝ }
+    ensures { λ r. ⌜ r ≡ sure (now (sheet .entry)) ⌝ }
+{
+    let count = transition_count(sheet);
+    let mut r = 0u64;
+    let mut t = 0;
+    while t < count {
+        if is_sure(sheet, t) {
+            r |= transitions::single(t);
+        }
+        t += 1;
+    }
+    r
+}
+
+// All transitions below a count.
+fn below(count: usize) -> u64
+    requires { ⌜ count ≤ 64 ⌝ }
+    ensures { λ r. ⌜ r ≡ below count ⌝ }
+{
+    if count == 0 {
+        return 0;
+    }
+    0xffff_ffff_ffff_ffff >> (64 - count)
+}
+
+// The transitions that are neither.
+pub fn mixed(sheet: &[u32], timing: u64, certain: u64) -> u64
+    requires { ⌜ (sheetRefusal (now sheet) ≡ 0) × (timing ≡ timers (now sheet)) × (certain ≡ sure (now sheet)) ⌝ }
+    ensures { λ r. ⌜ r ≡ mixed (now (sheet .entry)) ⌝ }
+{
+    transitions::minus(below(transition_count(sheet)), timing | certain)
+}
+
+// The delay of a timer, else 0.
+fn delay_of(sheet: &[u32], timing: u64, t: usize) -> u64
+    requires { ⌜ (sheetRefusal (now sheet) ≡ 0) × (timing ≡ timers (now sheet)) × (t < 64) ⌝ }
+    ensures { λ r. ⌜ r ≡ delayOf (now (sheet .entry)) t ⌝ }
+{
+    if transitions::has(timing, t) {
+        return delay(sheet, t) as u64;
+    }
+    0
+}
+
+// DELAYS.
+pub fn put_delays(sheet: &[u32], timing: u64, plan: &mut Plan)
+    requires { ⌜ (sheetRefusal (now sheet) ≡ 0) × (length (now plan) ≡ 547) × (timing ≡ timers (now sheet)) ⌝ }
+    ensures { λ _. ⌜ now (plan .exit) ≡ over (now (plan .entry)) 384 (rowFrom 0 64 (delayOf (now (sheet .entry)))) ⌝ }
+{
+    let mut t = 0;
+    while t < 64 {
+        plan[DELAYS + t] = delay_of(sheet, timing, t);
+        t += 1;
+    }
+}

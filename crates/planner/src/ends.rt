@@ -1,0 +1,41 @@
+// What each transition exits and enters.
+ghost use mathlib.Core.Path.{_≡_};
+ghost use lib.ListN.{length};
+ghost use Rattle.rows.specs.Over.{over};
+ghost use Rattle.meaning.specs.Lists.{rowFrom};
+ghost use Rattle.meaning.specs.Sheet.{tOf};
+ghost use Rattle.meaning.specs.Check.{sheetRefusal};
+ghost use Rattle.meaning.specs.Hierarchy.{exits, enters};
+ghost use Rattle.moves.specs.Inside.{Insides};
+use moves::transition::entered_by;
+use moves::transition::exited_by;
+use reaction::plan::ENTERS;
+use reaction::plan::EXITS;
+use reaction::plan::Plan;
+use sheet::words::transition_count;
+
+// EXITS.
+pub fn put_exits(sheet: &[u32], inside: &[u32; 32], plan: &mut Plan)
+    requires { ⌜ (sheetRefusal (now sheet) ≡ 0) × (length (now plan) ≡ 547) × Insides (now sheet) (now inside) ⌝ }
+    ensures { λ _. ⌜ now (plan .exit) ≡ over (now (plan .entry)) 0 (rowFrom 0 (tOf (now (sheet .entry))) (exits (now (sheet .entry)))) ⌝ }
+{
+    let count = transition_count(sheet);
+    let mut t = 0;
+    while t < count {
+        plan[EXITS + t] = exited_by(sheet, inside, t) as u64;
+        t += 1;
+    }
+}
+
+// ENTERS.
+pub fn put_enters(sheet: &[u32], plan: &mut Plan)
+    requires { ⌜ (sheetRefusal (now sheet) ≡ 0) × (length (now plan) ≡ 547) ⌝ }
+    ensures { λ _. ⌜ now (plan .exit) ≡ over (now (plan .entry)) 64 (rowFrom 0 (tOf (now (sheet .entry))) (enters (now (sheet .entry)))) ⌝ }
+{
+    let count = transition_count(sheet);
+    let mut t = 0;
+    while t < count {
+        plan[ENTERS + t] = entered_by(sheet, t) as u64;
+        t += 1;
+    }
+}
