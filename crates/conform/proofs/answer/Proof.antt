@@ -1,0 +1,51 @@
+-- `conform::answer` meets its contract: the current sheet lies within the words for it before and after. Assumes nothing.
+use lib.ListN.{length-take}
+use native.Mathlib.Omega.{arith}
+use borrow.Author.Needs.{needs}
+use Rattle.conform.proofs.answer.Statement.{statement}
+use Rattle.conform.proofs.answer.Tie as tie
+
+number-requires : tie.Need-number-requires
+number-requires c κs = search needs
+
+check-requires : tie.Need-check-requires
+check-requires c κs = search needs
+
+slice-reshare-prefix-sheet-run : tie.Need-slice-reshare-prefix-sheet-run
+slice-reshare-prefix-sheet-run c = search needs
+
+slice-aggregate-sheet-run : tie.Need-slice-aggregate-sheet-run
+slice-aggregate-sheet-run c = simp length-take (omega arith)
+
+sheet-run-requires : tie.Need-sheet-run-requires
+sheet-run-requires c κs = search needs
+
+same-length : tie.Need-same-length
+same-length c = search needs
+
+returns : tie.Need-returns
+returns c = search needs
+
+same-length-2 : tie.Need-same-length-2
+same-length-2 c = search needs
+
+returns-2 : tie.Need-returns-2
+returns-2 c = search needs
+
+returns-3 : tie.Need-returns-3
+returns-3 c = search needs
+
+pub answer-spec : {M : Type 1} → statement M
+answer-spec =
+    tie.close
+    (tie.spec
+    number-requires
+    check-requires
+    slice-reshare-prefix-sheet-run
+    slice-aggregate-sheet-run
+    sheet-run-requires
+    same-length
+    returns
+    same-length-2
+    returns-2
+    returns-3)

@@ -1,0 +1,45 @@
+-- Arrays of 64 words that a loop fills: a copy, and a row changed at the members of a set. Assumes nothing.
+use mathlib.Core.Path.{_≡_, sym, ap, _∙_}
+use mathlib.Core.Bool.{cond}
+use mathlib.Core.List.{List}
+use Prim.Native.Nat.{ℕ, _+_, _<_}
+use native.Mathlib.Decide.{ℕ-discrete}
+use native.Mathlib.Numerals.{add-one}
+use native.Mathlib.Omega.{arith}
+use lib.ListN.{length, getD, take, set, replicate, getD-replicate}
+use lib.Seq.{take-suc, take-suc-set, getD-set-same, getD-set-other}
+use Rattle.sets.specs.Sets.{has}
+use Rattle.sets.proofs.Membership.{has-none}
+use Rattle.sets.proofs.Members.{Turn, without-it, without-other}
+use Rattle.meaning.specs.Lists.{rowFrom}
+use Rattle.meaning.proofs.ListLaws.{rowFrom-ext, rowFrom-getD}
+
+-- ---- a list copied word by word
+
+pub copy-turn : (r l : List ℕ) (t : ℕ) → t < length r → t < length l → take t r ≡ take t l → take (t + 1) (set r t (getD l t 0)) ≡ take (t + 1) l
+copy-turn r l t h k e = rw (add-one, take-suc-set r t (getD l t 0) h, take-suc l t 0 k, e)
+
+-- ---- a row with words by a rule at the members of a set
+
+module _ (f : ℕ → ℕ) where
+  -- the list r of 64 words, with f t at each member t of s
+  abbrev pub filled : List ℕ → ℕ → List ℕ
+  filled r s = rowFrom 0 64 (λ t. cond (has s t) (f t) (getD r t 0))
+
+  -- storing it at the lowest member leaves the others to store
+  pub filled-turn : {s t s′ : ℕ} (r : List ℕ) → Turn 64 s t s′ → length r ≡ 64 → filled (set r t (f t)) s′ ≡ filled r s
+  filled-turn {s} {t} {s′} r u e =
+      rowFrom-ext (λ j. cond (has s′ j) (f j) (getD (set r t (f t)) j 0)) (λ j. cond (has s j) (f j) (getD r j 0)) 0 64 (λ j a b. at j (ℕ-discrete j t))
+    where
+      at : (j : ℕ) → Dec (j ≡ t) → cond (has s′ j) (f j) (getD (set r t (f t)) j 0) ≡ cond (has s j) (f j) (getD r j 0)
+      at j (yes p) =
+          rw (p, u .removed, without-it s t, u .lowest .member) (getD-set-same r t (f t) 0 (omega (arith, u .lowest .small)))
+      at j (no p) = rw (u .removed, without-other s t j p, getD-set-other r t j (f t) 0 p)
+
+  pub filled-done : (r : List ℕ) (s : ℕ) → s ≡ 0 → length r ≡ 64 → filled r s ≡ r
+  filled-done r s z e =
+      rowFrom-ext (λ t. cond (has s t) (f t) (getD r t 0)) (λ t. getD r t 0) 0 64 (λ t a b. rw (z, has-none t))
+      ∙ sym (rw e at (rowFrom-getD r 0))
+
+  pub filled-none : (s : ℕ) → filled (replicate 64 0) s ≡ rowFrom 0 64 (λ t. cond (has s t) (f t) 0)
+  filled-none s = rowFrom-ext (λ t. cond (has s t) (f t) (getD (replicate 64 0) t 0)) (λ t. cond (has s t) (f t) 0) 0 64 (λ j a b. ap (cond (has s j) (f j)) (getD-replicate 64 j 0 0 (omega arith)))

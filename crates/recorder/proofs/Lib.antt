@@ -1,0 +1,3 @@
+pub mod ClockLaws
+pub mod StateLaws
+pub mod RunLaws
