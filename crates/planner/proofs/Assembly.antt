@@ -142,6 +142,12 @@ module _ (s : List ℕ) where
   abbrev pub rowPiece : ℕ → (ℕ → ℕ) → Piece
   rowPiece i f = record { at = i; room = 64; width = tOf s; word = f }
 
+  abbrev pub losesPiece : Piece
+  losesPiece = rowPiece 256 (λ t. sourcesIn s (exits s t))
+
+  abbrev pub gainsPiece : Piece
+  gainsPiece = rowPiece 320 (λ t. sourcesIn s (enters s t))
+
   abbrev pub delaysPiece : Piece
   delaysPiece = record { at = 384; room = 64; width = 64; word = delayOf s }
 
@@ -153,7 +159,7 @@ module _ (s : List ℕ) where
   ends = rowPiece 64 (enters s) ∷ rowPiece 0 (exits s) ∷ fromPiece ∷ []
 
   abbrev pub changes : List Piece
-  changes = rowPiece 320 (λ t. sourcesIn s (enters s t)) ∷ rowPiece 256 (λ t. sourcesIn s (exits s t)) ∷ ends
+  changes = gainsPiece ∷ losesPiece ∷ ends
 
   abbrev pub conflicts : List Piece
   conflicts = rowPiece 192 (yieldersOf s) ∷ rowPiece 128 (conflictsOf s) ∷ changes
@@ -207,7 +213,7 @@ module _ (s : List ℕ) where
     pub loses-are : {m n : List ℕ} → Laid ends m → n ≡ over m 256 (rowFrom 0 (tOf s) (changeOf s m 0)) → n ≡ over m 256 (rowFrom 0 (tOf s) (λ t. sourcesIn s (exits s t)))
     loses-are {m} d e = changes-are 0 256 (exits s) m exits-word (laid-has 1 d tt) e
 
-    pub gains-are : {m n : List ℕ} → Laid (rowPiece 256 (λ t. sourcesIn s (exits s t)) ∷ ends) m
+    pub gains-are : {m n : List ℕ} → Laid (losesPiece ∷ ends) m
         → n ≡ over m 320 (rowFrom 0 (tOf s) (changeOf s m 64))
         → n ≡ over m 320 (rowFrom 0 (tOf s) (λ t. sourcesIn s (enters s t)))
     gains-are {m} d e = changes-are 64 320 (enters s) m enters-word (laid-has 1 d tt) e

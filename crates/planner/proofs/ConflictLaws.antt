@@ -25,9 +25,13 @@ use Rattle.reaction.proofs.PlanLaws.{sourcesIn-lt, has-sourcesIn}
 use Rattle.planner.specs.Parts.{Part, fromOf, Meetings}
 use Rattle.planner.proofs.PartLaws.{part-out, part-beside, front-in}
 
+-- ---- general
+
 eqb-sym : (a b : ℕ) → eqb a b ≡ eqb b a
 eqb-sym a b =
     bool-ext (eqb a b) (eqb b a) (λ k. of-true (eq-eqb b a (sym (eqb→eq a b k)))) (λ k. of-true (eq-eqb a b (sym (eqb→eq b a k))))
+
+-- ---- conflict and giving way
 
 -- of a source within (a) that is not the same (e), of two that are not one (n), in conflict (c)
 yields : (a e n c : Bool) → (T n → T e) → ((a && not e) && (not n && c)) ≡ (c && (not e && a))
