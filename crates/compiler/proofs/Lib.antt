@@ -1,0 +1,5 @@
+pub mod BlockLaws
+pub mod RowLaws
+pub mod WalkSteps
+pub mod FillLaws
+pub mod CompileLaws
