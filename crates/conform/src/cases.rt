@@ -39,7 +39,7 @@ fn with_word(h: u64, word: u32) -> u64
 }
 
 // The digest of a list of words.
-fn digest(words: &[u32]) -> u64 {
+pub fn digest(words: &[u32]) -> u64 {
     let mut h = 0u64;
     let mut i = 0;
     while i < words.len() {

@@ -4,6 +4,7 @@ ghost use lib.ListN.{length};
 ghost use Rattle.conform.specs.Steps.{wordsOf};
 
 mod cases;
+mod compile_case;
 mod text;
 
 use cases::Left;
@@ -30,6 +31,11 @@ fn answer(buf: &mut [u8; 65536], sheet: &mut [u32], from: Left) -> Step
             input: cases::sheet_run(buf, input, &sheet[..words]),
             words,
         }),
+        3 => {
+            let built = compile_case::compile(buf, input, &sheet[..words]);
+            let input = built.input;
+            Step::Next(Left { input, words })
+        }
         _ => Step::Done,
     }
 }

@@ -20,6 +20,15 @@ slice-aggregate-sheet-run c = simp length-take (omega arith)
 sheet-run-requires : tie.Need-sheet-run-requires
 sheet-run-requires c κs = search needs
 
+slice-reshare-prefix-compile : tie.Need-slice-reshare-prefix-compile
+slice-reshare-prefix-compile c = search needs
+
+slice-aggregate-compile : tie.Need-slice-aggregate-compile
+slice-aggregate-compile c = simp length-take (omega arith)
+
+compile-requires : tie.Need-compile-requires
+compile-requires c κs = search needs
+
 same-length : tie.Need-same-length
 same-length c = search needs
 
@@ -32,8 +41,14 @@ same-length-2 c = search needs
 returns-2 : tie.Need-returns-2
 returns-2 c = search needs
 
+same-length-3 : tie.Need-same-length-3
+same-length-3 c = search needs
+
 returns-3 : tie.Need-returns-3
 returns-3 c = search needs
+
+returns-4 : tie.Need-returns-4
+returns-4 c = search needs
 
 pub answer-spec : {M : Type 1} → statement M
 answer-spec =
@@ -44,8 +59,13 @@ answer-spec =
     slice-reshare-prefix-sheet-run
     slice-aggregate-sheet-run
     sheet-run-requires
+    slice-reshare-prefix-compile
+    slice-aggregate-compile
+    compile-requires
     same-length
     returns
     same-length-2
     returns-2
-    returns-3)
+    same-length-3
+    returns-3
+    returns-4)

@@ -1,0 +1,51 @@
+-- `conform::compile_case::compile` is safe and ends: the words lent lie within the arrays. Assumes nothing.
+use lib.ListN.{length-take}
+use native.Mathlib.Omega.{arith}
+use borrow.Author.Needs.{needs}
+use Rattle.conform.proofs.compile_case.compile.Statement.{statement}
+use Rattle.conform.proofs.compile_case.compile.Tie as tie
+
+number-requires : tie.Need-number-requires
+number-requires c κs = search needs
+
+number-requires-2 : tie.Need-number-requires-2
+number-requires-2 c κs = search needs
+
+at-most-requires : tie.Need-at-most-requires
+at-most-requires c κs = search needs
+
+at-most-requires-2 : tie.Need-at-most-requires-2
+at-most-requires-2 c κs = search needs
+
+array-borrow-prefix-table : tie.Need-array-borrow-prefix-table
+array-borrow-prefix-table c = search needs
+
+slice-aggregate-compile-sheet : tie.Need-slice-aggregate-compile-sheet
+slice-aggregate-compile-sheet c = simp length-take (omega arith)
+
+array-borrow-prefix-work : tie.Need-array-borrow-prefix-work
+array-borrow-prefix-work c = search needs
+
+slice-aggregate-compile-sheet-2 : tie.Need-slice-aggregate-compile-sheet-2
+slice-aggregate-compile-sheet-2 c = simp length-take (omega arith)
+
+compile-sheet-requires : tie.Need-compile-sheet-requires
+compile-sheet-requires c κs = search needs
+
+returns : tie.Need-returns
+returns c = search needs
+
+pub compile-spec : {M : Type 1} → statement M
+compile-spec =
+    tie.close
+    (tie.spec
+    number-requires
+    number-requires-2
+    at-most-requires
+    at-most-requires-2
+    array-borrow-prefix-table
+    slice-aggregate-compile-sheet
+    array-borrow-prefix-work
+    slice-aggregate-compile-sheet-2
+    compile-sheet-requires
+    returns)
