@@ -4,11 +4,11 @@ ghost use Prim.Native.Nat.{_+_, _≤_, _<_};
 ghost use lib.ListN.{length};
 use super::text;
 use super::text::Input;
+use clock::counts::Rounds;
+use clock::state::State;
 use meaning::refusal::Refusal;
 use meaning::refusal::number;
-use recorder::counts::Rounds;
-use recorder::sheet_run::Ran;
-use recorder::state::State;
+use simulator::sheet_run::Ran;
 
 // The text that is left after a case, and how many words the current sheet has.
 pub struct Left {
@@ -161,7 +161,7 @@ fn write_sheet_run(ran: Ran, outputs: u64) {
 
 // Runs the sheet and writes the line of the run.
 fn run_sheet(sheet: &[u32], state: State, inputs: &[u32], out: &mut [u32]) {
-    let ran = recorder::sheet_run::run(sheet, state, inputs, out);
+    let ran = simulator::sheet_run::run(sheet, state, inputs, out);
     write_sheet_run(ran, digest(out));
 }
 

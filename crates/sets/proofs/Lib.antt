@@ -5,3 +5,4 @@ pub mod Members
 pub mod Quantifiers
 pub mod Those
 pub mod Loops
+pub mod Widths

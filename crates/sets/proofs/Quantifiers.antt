@@ -10,10 +10,10 @@ use native.Mathlib.Omega.{arith}
 use lib.Dec.{T, T-not, not-T, eqb, eqb→eq, eqb-refl}
 use lib.ListN.{length}
 use borrow.Author.Tests.{eq-eqb, ne-eqb}
-use Rattle.sets.specs.Sets.{has, union, meet, minus, single, meets, some, someIn, everyIn, members, membersFrom, prepend, size, lowest}
+use Rattle.sets.specs.Sets.{has, union, meet, minus, single, meets, some, every, someIn, everyIn, members, membersFrom, prepend, size, lowest}
 use Rattle.sets.proofs.Tests.{is-true, is-false, of-true, of-false, and-l, and-r, bool-ext}
 use Rattle.sets.proofs.Membership.{ext, has-none, has-meet, has-union, has-single, has-minus, single-lt, meet-le, minus-le}
-use Rattle.sets.proofs.Facts.{some-e, some-i, someIn-i, everyIn-e, everyIn-i}
+use Rattle.sets.proofs.Facts.{some-e, some-i, every-e, every-i, someIn-i, everyIn-e, everyIn-i}
 use Rattle.sets.proofs.Members.{Turn, Lowest, fold, lowest-member, empty, without-other, members-lowest, members-none, minus-member}
 
 -- ---- some number below n has p
@@ -28,6 +28,14 @@ pub some-same : (n : ℕ) (p q : ℕ → Bool) → ((i : ℕ) → i < n → p i 
 unfolding some
 some-same zero p q e = refl
 some-same (suc n) p q e = ap₂ _||_ (e n (le-refl (suc n))) (some-same n p q (λ i l. e i (le-step l)))
+
+-- ---- every number below n has p
+
+pub every-same : (n : ℕ) (p q : ℕ → Bool) → ((i : ℕ) → i < n → p i ≡ q i) → every n p ≡ every n q
+every-same n p q e =
+    bool-ext (every n p) (every n q)
+    (λ h. every-i n q (λ i l. subst T (e i l) (every-e n p h i l)))
+    (λ h. every-i n p (λ i l. subst T (sym (e i l)) (every-e n q h i l)))
 
 -- ---- two sets meet where some number is in both
 

@@ -1,7 +1,7 @@
 // Sets of transitions, numbers below 64: bit t for transition t.
 ghost use mathlib.Core.Path.{_≡_};
 ghost use Prim.Native.Nat.{_+_, _*_, _/_, _%_, _^_, _<_};
-ghost use Rattle.sets.specs.Sets.{has, minus, meets, single, size, lowest};
+ghost use Rattle.sets.specs.Sets.{has, minus, meets, single, digit, size, lowest};
 
 // Transition t is in the set.
 pub fn has(set: u64, t: usize) -> bool
@@ -17,6 +17,14 @@ pub fn single(t: usize) -> u64
     ensures { λ r. ⌜ r ≡ single t ⌝ }
 {
     1 << t
+}
+
+// The set of t alone where a test holds, else the empty set.
+pub fn single_if(test: bool, t: usize) -> u64
+    requires { ⌜ t < 64 ⌝ }
+    ensures { λ r. ⌜ r ≡ digit test * 2 ^ t ⌝ }
+{
+    (test as u64) << t
 }
 
 // How many members the set has.

@@ -1,0 +1,116 @@
+-- The loop that finds the due timers of a set: the set built so far, and the number that it makes. Assumes nothing.
+use mathlib.Core.Path.{_≡_, refl, sym, ap, ap₂, _∙_, subst}
+use mathlib.Core.Bool.{Bool, true, false, _&&_}
+use mathlib.Core.List.{List}
+use Prim.Native.Nat.{ℕ, suc, _+_, _*_, _^_, _≤_, _<_}
+use native.Mathlib.Nat.{add-zero, zero-add, zero-mul, one-mul, mul-add, mul-one, mul-assoc, mul-zero, pow-suc, pow-le-pow-right, lt-of-lt-of-le}
+use native.Mathlib.Numerals.{add-one}
+use native.Mathlib.Omega.{arith}
+use lib.Bits.{or-zero-r}
+use lib.ListN.{length}
+use Rattle.sets.specs.Sets.{has, union, minus, digit, those, members, size}
+use Rattle.sets.proofs.Tests.{is-true, of-true}
+use Rattle.sets.proofs.Facts.{size-le}
+use Rattle.sets.proofs.Membership.{has-those}
+use Rattle.sets.proofs.Members.{Turn, members-turn, members-none}
+use Rattle.sets.proofs.Those.{Subset, subset-turn, those-start, those-add, those-skip, those-done}
+use Rattle.meaning.specs.TableRun.{dueNumber}
+
+module _ (timers : ℕ) (p : ℕ → Bool) where
+  abbrev all : ℕ
+  all = those 64 timers p
+
+  -- what the loop keeps, with these timers left
+  pub record Counted (set number place rest : ℕ) : Type 0 where
+    pub fits : rest < 2 ^ 64
+    pub part : Subset rest timers
+    pub built : set ≡ minus all rest
+    pub small : number < 2 ^ place
+    pub room : place + size 64 rest ≤ 64
+    pub sum : number + 2 ^ place * dueNumber (members 64 rest) all ≡ dueNumber (members 64 timers) all
+
+  pub counted-start : timers < 2 ^ 64 → Counted 0 0 0 timers
+  counted-start l =
+      record {
+        fits = l;
+        part = λ i h. h;
+        built = sym (those-start 64 timers p);
+        small = omega arith;
+        room = omega (arith, size-le 64 timers);
+        sum = zero-add (1 * dueNumber (members 64 timers) all) ∙ one-mul (dueNumber (members 64 timers) all);
+      }
+
+  -- adding a timer's digit
+  more : (b : Bool) (number w n : ℕ) → number + digit b * w + w * 2 * n ≡ number + w * (digit b + 2 * n)
+  unfolding digit
+  more true number w n =
+      let a : w * (1 + 2 * n) ≡ w * 1 + w * (2 * n) = mul-add w 1 (2 * n) in
+      let d : w * 2 * n ≡ w * (2 * n) = mul-assoc w 2 n in
+      let one : w * 1 ≡ w = mul-one w in
+      omega arith
+  more false number w n =
+      let d : w * 2 * n ≡ w * (2 * n) = mul-assoc w 2 n in
+      let z : w * (0 + 2 * n) ≡ w * (2 * n) = ap (λ (x : ℕ). w * x) (zero-add (2 * n)) in
+      let none : 0 * w ≡ 0 = zero-mul w in
+      omega arith
+
+  fewer : (b : Bool) (number w : ℕ) → number < w → number + digit b * w < w * 2
+  unfolding digit
+  fewer true number w h = omega arith
+  fewer false number w h = let z : 0 * w ≡ 0 = zero-mul w in omega arith
+
+  module _ {set number place rest t rest′ : ℕ} (c : Counted set number place rest) (u : Turn 64 rest t rest′) where
+    size-turn : size 64 rest ≡ suc (size 64 rest′)
+    unfolding size
+    size-turn = ap length (members-turn u)
+
+    pub place-small : place < 64
+    place-small = omega (arith, c .room, size-turn)
+
+    due-there : has all t ≡ p t
+    due-there =
+        has-those 64 timers p t (u .lowest .small)
+        ∙ ap (λ (b : Bool). b && p t) (is-true (has timers t) (c .part t (of-true (u .lowest .member))))
+
+    number-turn : dueNumber (members 64 rest) all ≡ digit (has all t) + 2 * dueNumber (members 64 rest′) all
+    unfolding dueNumber
+    number-turn = ap (λ (l : List ℕ). dueNumber l all) (members-turn u)
+
+    built-turn : (b : Bool) → p t ≡ b → union set (digit b * 2 ^ t) ≡ minus all rest′
+    unfolding digit
+    built-turn true e =
+        ap₂ union (c .built) (one-mul (2 ^ t)) ∙ those-add timers p u (c .part) e
+    built-turn false e =
+        ap₂ union (c .built) (zero-mul (2 ^ t)) ∙ or-zero-r (minus all rest) ∙ those-skip timers p u e
+
+    pub number-small : number + digit (p t) * 2 ^ place < 2 ^ 64
+    number-small =
+        lt-of-lt-of-le (fewer (p t) number (2 ^ place) (c .small))
+        (subst (λ (x : ℕ). x ≤ 2 ^ 64) (pow-suc 2 place) (pow-le-pow-right (omega arith) {i = suc place} place-small))
+
+    double : 2 ^ (place + 1) ≡ 2 ^ place * 2
+    double = ap (λ (x : ℕ). 2 ^ x) (add-one place) ∙ pow-suc 2 place
+
+    pub counted-turn : Counted (union set (digit (p t) * 2 ^ t)) (number + digit (p t) * 2 ^ place) (place + 1) rest′
+    counted-turn =
+        record {
+          fits = u .fits;
+          part = subset-turn timers u (c .part);
+          built = built-turn (p t) refl;
+          small = subst (λ (x : ℕ). number + digit (p t) * 2 ^ place < x) (sym double) (fewer (p t) number (2 ^ place) (c .small));
+          room = omega (arith, c .room, size-turn);
+          sum =
+              ap (λ (x : ℕ). number + digit (p t) * 2 ^ place + x * dueNumber (members 64 rest′) all) double
+              ∙ more (p t) number (2 ^ place) (dueNumber (members 64 rest′) all)
+              ∙ ap (λ (b : Bool). number + 2 ^ place * (digit b + 2 * dueNumber (members 64 rest′) all)) (sym due-there)
+              ∙ ap (λ (x : ℕ). number + 2 ^ place * x) (sym number-turn)
+              ∙ c .sum;
+        }
+
+  pub counted-done : {set number place rest : ℕ} → Counted set number place rest → rest ≡ 0
+      → (set ≡ all) × (number ≡ dueNumber (members 64 timers) all)
+  unfolding dueNumber
+  counted-done {set} {number} {place} {rest} c z = (
+    c .built ∙ those-done 64 timers rest p z,
+    sym (ap (λ (x : ℕ). number + 2 ^ place * x) (ap (λ (r : ℕ). dueNumber (members 64 r) all) z ∙ ap (λ (l : List ℕ). dueNumber l all) (members-none 64)) ∙ ap (λ (x : ℕ). number + x) (mul-zero (2 ^ place)) ∙ add-zero number) ∙ c .sum,
+  )

@@ -1,0 +1,5 @@
+pub mod ArrayLaws
+pub mod ReadingLaws
+pub mod DeadlineLaws
+pub mod RunPlaces
+pub mod DueLaws

@@ -1,0 +1,76 @@
+// Readings during a run: each timer is kept by its deadline, the tick, counted from 1 in the call, in which its reading is 0.
+ghost use mathlib.Core.Path.{_≡_};
+ghost use mathlib.Core.Bool.{cond};
+ghost use mathlib.Core.Bool.{true};
+ghost use Prim.Native.Nat.{ℕ, _+_, _-_, _%_, _^_, _<_, _≤_};
+ghost use lib.Dec.{eqb};
+ghost use lib.ListN.{length, getD};
+ghost use Rattle.sets.specs.Sets.{has, those, members};
+ghost use Rattle.meaning.specs.Lists.{rowFrom};
+ghost use Rattle.meaning.specs.TableRun.{dueNumber};
+use sets::transitions;
+
+// The deadlines of readings at the start of a call.
+pub fn deadlines(readings: [u32; 64]) -> [u64; 64]
+    ensures { λ r. ⌜ r ≡ readings ⌝ }
+{
+    let mut r = [0u64; 64];
+    let mut t = 0;
+    while t < 64 {
+        r[t] = readings[t] as u64;
+        t += 1;
+    }
+    r
+}
+
+// The readings of the running timers after a tick; no deadline of theirs is past.
+pub fn readings_at(ends: &[u64; 64], timers: u64, tick: u64) -> [u32; 64]
+    requires { ⌜ ((t : ℕ) → has timers t ≡ true → tick ≤ getD (now ends) t 0) ⌝ }
+    ensures { λ r. ⌜ r ≡ rowFrom 0 64 (λ t. cond (has timers t) ((getD (now (ends .entry)) t 0 - tick) % 2 ^ 32) 0) ⌝ }
+{
+    let mut r = [0u32; 64];
+    let mut rest = timers;
+    while rest != 0 {
+        let t = transitions::lowest(rest);
+        r[t] = ((ends[t] - tick) % 4294967296) as u32;
+        rest = transitions::without_lowest(rest);
+    }
+    r
+}
+
+// The timers of a set that are due in a tick: as a set, and as the number that they make, the lowest timer in bit 0.
+pub struct DueTimers {
+    pub set: u64,
+    pub number: u64,
+}
+
+pub fn due(ends: &[u64; 64], timers: u64, tick: u64) -> DueTimers
+    ensures { λ r. ⌜ (r .set ≡ those 64 timers (λ t. eqb (getD (now (ends .entry)) t 0) tick)) × (r .number ≡ dueNumber (members 64 timers) (r .set)) ⌝ }
+{
+    let mut set = 0u64;
+    let mut number = 0u64;
+    let mut place = 0;
+    let mut rest = timers;
+    while rest != 0 {
+        let t = transitions::lowest(rest);
+        let is_due = ends[t] == tick;
+        set |= transitions::single_if(is_due, t);
+        number += transitions::single_if(is_due, place);
+        place += 1;
+        rest = transitions::without_lowest(rest);
+    }
+    DueTimers { set, number }
+}
+
+// The timers of a set start at their delays in a tick.
+pub fn restart(delays: &[u64; 64], ends: &mut [u64; 64], set: u64, tick: u64)
+    requires { ⌜ (length (now ends) ≡ 64) × (tick < 2 ^ 62) × ((t : ℕ) → t < 64 → getD (now delays) t 0 < 2 ^ 32) ⌝ }
+    ensures { λ _. ⌜ now (ends .exit) ≡ rowFrom 0 64 (λ t. cond (has set t) (tick + getD (now (delays .entry)) t 0) (getD (now (ends .entry)) t 0)) ⌝ }
+{
+    let mut rest = set;
+    while rest != 0 {
+        let t = transitions::lowest(rest);
+        ends[t] = tick + delays[t];
+        rest = transitions::without_lowest(rest);
+    }
+}

@@ -1,0 +1,105 @@
+-- What the head and the pairs say once they have passed: every word that the code looks at is there. Assumes nothing.
+use mathlib.Core.Path.{_≡_, refl, sym, ap, _∙_}
+use mathlib.Core.Logic.{_⊎_, inl, inr}
+use mathlib.Core.Bool.{and-true}
+use mathlib.Core.List.{List}
+use Prim.Native.Nat.{ℕ, zero, suc, _+_, _*_, _%_, _^_, _≤_, _<_}
+use native.Mathlib.Nat.{le-refl, le-trans, le-of-eq, le-of-suc-le-suc, eq-or-lt-of-le, mod-eq-of-lt}
+use native.Mathlib.Numerals.{add-one}
+use native.Mathlib.Omega.{arith}
+use lib.Dec.{T, eqb, leb, eqb→eq, leb→le}
+use lib.ListN.{length}
+use lib.Pow.{pow-add, pow-lt, pow-mono}
+use borrow.Author.Tests.{le-leb, eq-eqb}
+use Rattle.sets.specs.Sets.{every}
+use Rattle.sets.proofs.Tests.{and-l, and-r}
+use Rattle.sets.proofs.Facts.{every-e}
+use Rattle.sets.proofs.Membership.{one-shl}
+use Rattle.meaning.specs.Lists.{allOf}
+use Rattle.meaning.specs.Table.{wordIn, kIn, tIn, bIn, offsetIn, lengthIn, endBeforeIn}
+use Rattle.meaning.proofs.ListLaws.{allOf-e}
+use Rattle.layout.specs.Parts.{headOk, pairsOk}
+
+-- ---- the head
+
+pub record Head (w : List ℕ) : Type 0 where
+  pub four : 4 ≤ length w
+  pub one : wordIn w 0 ≡ 1
+  pub k-le : kIn w ≤ 6
+  pub t-le : tIn w ≤ 64
+  pub b-pos : 1 ≤ bIn w
+  pub b-le : bIn w ≤ 4096
+  pub room : 4 + tIn w + 2 * bIn w ≤ length w
+
+pub head-of : (w : List ℕ) → T (headOk w) → Head w
+unfolding headOk
+head-of w h =
+    let r = allOf-e _ h in
+    record {
+      four = leb→le 4 (length w) (r .0);
+      one = eqb→eq (wordIn w 0) 1 (r .1 .0);
+      k-le = leb→le (kIn w) 6 (r .1 .1 .0);
+      t-le = leb→le (tIn w) 64 (r .1 .1 .1 .0);
+      b-pos = leb→le 1 (bIn w) (r .1 .1 .1 .1 .0);
+      b-le = leb→le (bIn w) 4096 (r .1 .1 .1 .1 .1 .0);
+      room = leb→le (4 + tIn w + 2 * bIn w) (length w) (r .1 .1 .1 .1 .1 .1 .0);
+    }
+
+-- where all its tests but the last have passed
+pub head-is : (w : List ℕ) → 4 ≤ length w → wordIn w 0 ≡ 1 → kIn w ≤ 6 → tIn w ≤ 64 → 1 ≤ bIn w → bIn w ≤ 4096
+    → headOk w ≡ leb (4 + tIn w + 2 * bIn w) (length w)
+unfolding headOk allOf
+head-is w l o k t p b =
+    rw (le-leb 4 (length w) l, eq-eqb (wordIn w 0) 1 o, le-leb (kIn w) 6 k, le-leb (tIn w) 64 t, le-leb 1 (bIn w) p, le-leb (bIn w) 4096 b)
+    (and-true (leb (4 + tIn w + 2 * bIn w) (length w)))
+
+-- ---- where blocks must begin
+
+pub end-first : (w : List ℕ) → endBeforeIn w 0 ≡ 4 + tIn w + 2 * bIn w
+unfolding endBeforeIn
+end-first w = refl
+
+pub end-after : (w : List ℕ) (b : ℕ) → endBeforeIn w (b + 1) ≡ offsetIn w b + lengthIn w b
+unfolding endBeforeIn
+end-after w b = rw add-one
+
+-- ---- the pairs: the blocks follow one another, so that each lies within the table
+
+module _ (w : List ℕ) (h : T (pairsOk w)) where
+  pub offset-is : (b : ℕ) → b < bIn w → offsetIn w b ≡ endBeforeIn w b
+  unfolding pairsOk
+  offset-is b l =
+      eqb→eq (offsetIn w b) (endBeforeIn w b)
+      (every-e (bIn w) (λ i. eqb (offsetIn w i) (endBeforeIn w i)) (and-l (every (bIn w) (λ i. eqb (offsetIn w i) (endBeforeIn w i))) (eqb (endBeforeIn w (bIn w)) (length w)) h) b l)
+
+  last-end : endBeforeIn w (bIn w) ≡ length w
+  unfolding pairsOk
+  last-end = eqb→eq (endBeforeIn w (bIn w)) (length w) (and-r (every (bIn w) (λ i. eqb (offsetIn w i) (endBeforeIn w i))) (eqb (endBeforeIn w (bIn w)) (length w)) h)
+
+  end-next : (b : ℕ) → b < bIn w → endBeforeIn w b ≤ endBeforeIn w (suc b)
+  unfolding endBeforeIn
+  end-next b l = let at = offset-is b l in omega arith
+
+  end-le : (a b : ℕ) → a ≤ b → b ≤ bIn w → endBeforeIn w a ≤ endBeforeIn w b
+  end-le a zero k l = le-of-eq (ap (endBeforeIn w) (omega arith))
+  end-le a (suc b) k l = go (eq-or-lt-of-le k) (λ i. end-le a b i (omega arith))
+    where
+      go : (a ≡ suc b) ⊎ (a < suc b) → (a ≤ b → endBeforeIn w a ≤ endBeforeIn w b) → endBeforeIn w a ≤ endBeforeIn w (suc b)
+      go (inl e) ih = le-of-eq (ap (endBeforeIn w) e)
+      go (inr i) ih = le-trans (ih (le-of-suc-le-suc i)) (end-next b l)
+
+  pub block-room : (b : ℕ) → b < bIn w → offsetIn w b + lengthIn w b ≤ length w
+  unfolding endBeforeIn
+  block-room b l = le-trans (end-le (suc b) (bIn w) l (le-refl (bIn w))) (le-of-eq last-end)
+
+-- ---- the count of cells
+
+-- `(1 << a) << k`
+pub cells-shl : (a k : ℕ) → a ≤ 6 → k ≤ 6 → 1 * 2 ^ a % 2 ^ 64 * 2 ^ k % 2 ^ 64 ≡ 2 ^ (a + k)
+cells-shl a k h j =
+    ap (λ (x : ℕ). x * 2 ^ k % 2 ^ 64) (one-shl 64 a (omega arith))
+    ∙ ap (λ (x : ℕ). x % 2 ^ 64) (sym (pow-add 2 a k))
+    ∙ mod-eq-of-lt (pow-lt {j = 64} (omega arith))
+
+pub cells-small : (a k : ℕ) → a ≤ 6 → k ≤ 6 → 2 ^ (a + k) ≤ 4096
+cells-small a k h j = pow-mono {j = 12} (omega arith)

@@ -1,3 +1,0 @@
-pub mod ClockLaws
-pub mod StateLaws
-pub mod RunLaws

@@ -1,0 +1,59 @@
+-- A set seen at two widths, and a loop that tests every member of a set. Assumes nothing.
+use mathlib.Core.Path.{_≡_, sym, ap, _∙_, subst}
+use mathlib.Core.Bool.{Bool, true, false, _&&_}
+use Prim.Native.Nat.{ℕ, _^_, _≤_, _<_}
+use native.Mathlib.Decide.{ℕ-discrete}
+use native.Mathlib.Nat.{lt-of-le-of-lt}
+use lib.Bits.{and-comm}
+use lib.Dec.{T, ltb, ltb→lt, lt→ltb}
+use borrow.Author.Tests.{lt-ltb, le-ltb}
+use Rattle.sets.specs.Sets.{has, meet, below, setOf, those, size, everyIn}
+use Rattle.sets.proofs.Tests.{is-true, is-false, of-true, bool-ext}
+use Rattle.sets.proofs.Facts.{has-lt, everyIn-e, everyIn-i}
+use Rattle.sets.proofs.Membership.{has-meet, has-none, has-below, has-setOf, meet-le, setOf-lt, setOf-ext, lt-of-members}
+use Rattle.sets.proofs.Members.{Turn, ones-size, without-other}
+use Rattle.sets.proofs.Those.{subset-turn}
+
+pub meet-setOf : (n x : ℕ) (p : ℕ → Bool) → meet x (setOf n p) ≡ those n x p
+unfolding those
+meet-setOf n x p =
+    setOf-ext n (λ i. has x i && p i)
+    (lt-of-le-of-lt (subst (λ (y : ℕ). y ≤ setOf n p) (and-comm (setOf n p) x) (meet-le (setOf n p) x)) (setOf-lt n p))
+    (λ i l. has-meet x (setOf n p) i ∙ ap (λ (b : Bool). has x i && b) (has-setOf n p i l))
+
+pub size-width : (v w : ℕ) {s : ℕ} → s < 2 ^ v → s < 2 ^ w → size v s ≡ size w s
+size-width v w {s} h k = sym (ones-size v s h) ∙ ones-size w s k
+
+pub everyIn-width : (v w : ℕ) {s : ℕ} (p : ℕ → Bool) → s < 2 ^ v → s < 2 ^ w → everyIn v s p ≡ everyIn w s p
+everyIn-width v w {s} p h k =
+    bool-ext (everyIn v s p) (everyIn w s p)
+    (λ e. everyIn-i w s p (λ i l m. everyIn-e v s p e i (has-lt v s i h m) m))
+    (λ e. everyIn-i v s p (λ i l m. everyIn-e w s p e i (has-lt w s i k m) m))
+
+pub everyIn-below : (w n x : ℕ) → x < 2 ^ w → everyIn w x (has (below n)) ≡ ltb x (2 ^ n)
+everyIn-below w n x h =
+    bool-ext (everyIn w x (has (below n))) (ltb x (2 ^ n))
+    (λ e. lt→ltb x (2 ^ n) (lt-of-members w n x h (λ i k l. is-false (has x i) (λ m. absurd (out e i k l m)))))
+    (λ e. everyIn-i w x (has (below n)) (λ i l m. of-true (has-below n i ∙ lt-ltb i n (has-lt n x i (ltb→lt x (2 ^ n) e) m))))
+  where
+    out : T (everyIn w x (has (below n))) → (i : ℕ) → n ≤ i → i < w → T (has x i) → ⊥
+    out e i k l m = subst T (has-below n i ∙ le-ltb i n k) (everyIn-e w x (has (below n)) e i l m)
+
+pub everyIn-turn : {w s t r : ℕ} (p : ℕ → Bool) → Turn w s t r → p t ≡ true → everyIn w r p ≡ everyIn w s p
+everyIn-turn {w} {s} {t} {r} p u e =
+    bool-ext (everyIn w r p) (everyIn w s p)
+    (λ h. everyIn-i w s p (λ i l m. at h i l m (ℕ-discrete i t)))
+    (λ h. everyIn-i w r p (λ i l m. everyIn-e w s p h i l (subset-turn s u (λ j k. k) i m)))
+  where
+    at : T (everyIn w r p) → (i : ℕ) → i < w → T (has s i) → Dec (i ≡ t) → T (p i)
+    at h i l m (yes q) = of-true (ap p q ∙ e)
+    at h i l m (no q) =
+        everyIn-e w r p h i l (subst T (sym (ap (λ (x : ℕ). has x i) (u .removed) ∙ without-other s t i q)) m)
+
+pub everyIn-fails : {w s t r : ℕ} (p : ℕ → Bool) → Turn w s t r → p t ≡ false → everyIn w s p ≡ false
+everyIn-fails {w} {s} {t} p u e =
+    is-false (everyIn w s p) (λ h. subst T e (everyIn-e w s p h t (u .lowest .small) (of-true (u .lowest .member))))
+
+pub everyIn-none : (w s : ℕ) (p : ℕ → Bool) → s ≡ 0 → everyIn w s p ≡ true
+everyIn-none w s p e =
+    is-true (everyIn w s p) (everyIn-i w s p (λ i l m. absurd (subst T (ap (λ (x : ℕ). has x i) e ∙ has-none i) m)))

@@ -1,0 +1,3 @@
+pub mod DelayLaws
+pub mod StateLaws
+pub mod RunLaws

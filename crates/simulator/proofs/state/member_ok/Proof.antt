@@ -1,0 +1,84 @@
+-- `simulator::state::member_ok` meets its contract: each way out is a case of the member's kind. Assumes nothing.
+use mathlib.Core.Path.{_≡_, sym, ap, _∙_}
+use mathlib.Core.Bool.{Bool}
+use Prim.Native.Nat.{ℕ}
+use native.Mathlib.Omega.{arith}
+use borrow.Author.Tests.{not-true, not-false}
+use lib.Dec.{eqb}
+use Rattle.sets.specs.Sets.{has, meet, size, everyIn}
+use Rattle.meaning.proofs.SheetLaws.{sound, n-le, parent-le}
+use Rattle.meaning.specs.Sheet.{parent}
+use Rattle.sheet.proofs.Past.{row-read}
+use Rattle.simulator.proofs.StateLaws.{member-orphan, member-serial, member-parallel, member-atomic}
+use borrow.Author.Needs.{needs}
+use Rattle.simulator.proofs.state.member_ok.Statement.{statement}
+use Rattle.simulator.proofs.state.member_ok.Tie as tie
+
+parent-requires : tie.Need-parent-requires
+parent-requires c κs = row-read _ (c .before .pre .0) _ (c .before .pre .1)
+
+has-requires : tie.Need-has-requires
+has-requires c κs =
+    let s = c .before .before in
+    let sd = sound (s .args .sheet .now) (s .pre .0) in
+    omega (arith, c .parent .ensures, parent-le (s .args .sheet .now) sd (s .args .m) (s .pre .1), n-le (s .args .sheet .now) sd, s .pre .1)
+
+-- whether the parent is in the set
+parented : (c : tie.After-has) (b : Bool) → c .has .result ≡ b → has (c .before .before .before .args .x) (parent (c .before .before .before .args .sheet .now) (c .before .before .before .args .m)) ≡ b
+parented c b e = ap (has (c .before .before .before .args .x)) (sym (c .before .parent .ensures)) ∙ sym (c .has .ensures) ∙ e
+
+returns : tie.Need-returns
+returns c =
+    let s = c .before .before .before .before in
+    sym (member-orphan (s .args .sheet .now) (s .pre .0) (s .args .x) (s .args .m) (parented (c .before) _ (not-true _ (c .if1 .taken))))
+
+children-of-requires : tie.Need-children-of-requires
+children-of-requires c κs = search needs
+
+kind-requires : tie.Need-kind-requires
+kind-requires c κs = let s = c .before .before .before .before .before in row-read _ (s .pre .0) _ (s .pre .1)
+
+one-member-requires : tie.Need-one-member-requires
+one-member-requires c κs = search needs
+
+within-requires : tie.Need-within-requires
+within-requires c κs = search needs
+
+returns-2 : tie.Need-returns-2
+returns-2 c =
+    let s = c .before .before .before .before .before .before .before .before in
+    let e = parented (c .before .before .before .before .before) _ (not-false _ (c .before .before .before .before .if1 .left)) in
+    c .one-member .ensures
+    ∙ ap (λ (y : ℕ). eqb (size 32 (meet (s .args .x) y)) 1) (c .before .before .before .children-of .ensures)
+    ∙ member-serial (s .args .sheet .now) (s .pre .0) (s .args .x) (s .args .m) e (sym (c .before .before .kind .ensures) ∙ c .before .match .keys1)
+
+returns-3 : tie.Need-returns-3
+returns-3 c =
+    let s = c .before .before .before .before .before .before .before .before in
+    let e = parented (c .before .before .before .before .before) _ (not-false _ (c .before .before .before .before .if1 .left)) in
+    c .within .ensures
+    ∙ ap (λ (y : ℕ). everyIn 32 y (has (s .args .x))) (c .before .before .before .children-of .ensures)
+    ∙ member-parallel (s .args .sheet .now) (s .pre .0) (s .args .x) (s .args .m) e (sym (c .before .before .kind .ensures) ∙ c .before .match .keys2)
+
+returns-4 : tie.Need-returns-4
+returns-4 c =
+    let s = c .before .before .before .before .before .before .before in
+    let e = parented (c .before .before .before .before) _ (not-false _ (c .before .before .before .if1 .left)) in
+    member-atomic (s .args .sheet .now) (s .pre .0) (s .args .x) (s .args .m) e
+    (λ q. c .match .rest .0 .1 (c .before .kind .ensures ∙ q))
+    (λ q. c .match .rest .1 (c .before .kind .ensures ∙ q))
+
+pub member-ok-spec : {M : Type 1} → statement M
+member-ok-spec =
+    tie.close
+    (tie.spec
+    parent-requires
+    has-requires
+    returns
+    children-of-requires
+    kind-requires
+    one-member-requires
+    within-requires
+    returns-2
+    returns-3
+    returns-4)

@@ -1,0 +1,3 @@
+// The sheet run.
+pub mod sheet_run;
+mod state;

@@ -1,0 +1,170 @@
+// The sheet run.
+ghost use mathlib.Core.Path.{_≡_};
+ghost use mathlib.Core.Bool.{true};
+ghost use mathlib.Core.List.{List};
+ghost use Prim.Native.Nat.{ℕ, _+_, _*_, _≤_};
+ghost use lib.ListN.{length, getD};
+ghost use Rattle.sets.specs.Sets.{has};
+ghost use Rattle.rows.specs.Over.{fiveOf};
+ghost use Rattle.meaning.specs.Lists.{rowFrom};
+ghost use Rattle.meaning.specs.Check.{sheetRefusal};
+ghost use Rattle.meaning.specs.Refusal.{numberOf};
+ghost use Rattle.meaning.specs.Tick.{fiveWords};
+ghost use Rattle.meaning.specs.Run.{ran};
+ghost use Rattle.meaning.specs.Sheet.{tOf};
+ghost use Rattle.meaning.specs.SheetRun.{stateOk, sheetTicks, sheetRun};
+ghost use Rattle.reaction.specs.Plan.{Planned};
+ghost use Rattle.reaction.specs.Rounds.{setsOf};
+ghost use Rattle.clock.specs.Runs.{totalOf, stateOf, endedRun};
+ghost use Rattle.simulator.specs.Runs.{Delays, ranOf};
+use super::state::state_ok;
+use clock::counts::Rounds;
+use clock::counts::Ticks;
+use clock::counts::with_rounds;
+use clock::deadlines::deadlines;
+use clock::deadlines::due;
+use clock::deadlines::readings_at;
+use clock::deadlines::restart;
+use clock::state::State;
+use meaning::refusal::Refusal;
+use meaning::refusal::number;
+use planner::planned;
+use reaction::plan::DELAYS;
+use reaction::plan::Plan;
+use reaction::plan::TIMERS;
+use reaction::plan::from_set;
+use reaction::tick::Sets;
+use reaction::tick::tick;
+use rows::Five;
+use rows::put_five;
+use sets::transitions;
+use sheet::words::event_count;
+
+// What a sheet run returns: ticks done, their total of rounds, the state after them, the refusal.
+pub struct Ran {
+    pub done: Ticks,
+    pub rounds: Rounds,
+    pub state: State,
+    pub refusal: Refusal,
+}
+
+// The five words of a tick.
+fn five_words(z: Sets) -> Five
+    ensures { λ r. ⌜ fiveOf r ≡ fiveWords (setsOf z) ⌝ }
+{
+    Five {
+        entered: z.entered,
+        exited: z.exited,
+        active: z.active,
+        low: transitions::low(z.taken),
+        high: transitions::high(z.taken),
+    }
+}
+
+// A run that ends after some ticks, in the mode set x with these timers running; no deadline of theirs is past.
+fn ended(ends: &[u64; 64], x: u32, timers: u64, done: usize, total: Rounds, why: Refusal) -> Ran
+    requires { ⌜ ((t : ℕ) → has timers t ≡ true → done ≤ getD (now ends) t 0) ⌝ }
+    ensures { λ r. ⌜ ((out : List ℕ) → ranOf r out ≡ endedRun (now (ends .entry)) x timers done (totalOf total) (numberOf why) out) ⌝ }
+{
+    let readings = readings_at(ends, timers, done as u64);
+    Ran {
+        done: Ticks(done),
+        rounds: total,
+        state: State { at: x, readings },
+        refusal: why,
+    }
+}
+
+// The delays of the plan's timers, 0 for other transitions.
+fn delays_of(plan: &Plan) -> [u64; 64]
+    ensures { λ r. ⌜ r ≡ rowFrom 0 64 (λ t. getD (now (plan .entry)) (384 + t) 0) ⌝ }
+{
+    let mut r = [0u64; 64];
+    let mut t = 0;
+    while t < 64 {
+        r[t] = plan[DELAYS + t];
+        t += 1;
+    }
+    r
+}
+
+// Tick by tick: 13, then 8 or 9.
+fn ticks(
+    sheet: &[u32],
+    plan: &Plan,
+    delays: &[u64; 64],
+    start: State,
+    inputs: &[u32],
+    out: &mut [u32],
+) -> Ran
+    requires { ⌜ (sheetRefusal (now sheet) ≡ 0) × Planned (now sheet) (now plan) × Delays (now sheet) (now delays) × (stateOk (now sheet) (stateOf start) ≡ true) × (5 * length (now inputs) ≤ length (now out)) ⌝ }
+    ensures { λ r. ⌜ ranOf r (now (out .exit)) ≡ ran (now (out .entry)) (sheetTicks (now (sheet .entry)) (now (inputs .entry)) (stateOf start)) ⌝ }
+{
+    let timers = plan[TIMERS];
+    let k = event_count(sheet);
+    let readings = start.readings;
+    let mut ends = deadlines(readings);
+    let mut x = start.at;
+    let mut live = from_set(sheet, plan, x);
+    let mut total = Rounds(0, 0);
+    let mut i = 0;
+    while i < inputs.len() {
+        let input = inputs[i];
+        if input >> k != 0 {
+            return ended(&ends, x, live & timers, i, total, Refusal::InputSet);
+        }
+        let now = (i + 1) as u64;
+        let d = due(&ends, live & timers, now);
+        let o = tick(sheet, plan, x, live, d.set, input);
+        let why = o.refusal;
+        if number(why) != 0 {
+            return ended(&ends, x, live & timers, i, total, why);
+        }
+        let z = o.sets;
+        restart(
+            delays,
+            &mut ends,
+            from_set(sheet, plan, z.entered) & z.live & timers,
+            now,
+        );
+        put_five(out, 5 * i, five_words(z));
+        total = with_rounds(total, o.rounds);
+        x = z.modes;
+        live = z.live;
+        i += 1;
+    }
+    ended(&ends, x, live & timers, i, total, Refusal::Nothing)
+}
+
+// A run that stops before any tick.
+fn stops(state: State, why: Refusal) -> Ran
+    ensures { λ r. ⌜ ((out : List ℕ) → ranOf r out ≡ record { done = 0; state = stateOf state; refusal = numberOf why; rounds = 0; out = out }) ⌝ }
+{
+    Ran {
+        done: Ticks(0),
+        rounds: Rounds(0, 0),
+        state,
+        refusal: why,
+    }
+}
+
+// The sheet run, on any sheet words, state, input sets and output words: 1 to 6, 14, 12, then tick by tick 13, then 8 or 9. A
+// refused tick leaves the state of the tick before; only the five words of each done tick are written, at 5p.
+pub fn run(sheet: &[u32], state: State, inputs: &[u32], out: &mut [u32]) -> Ran
+    ensures { λ r. ⌜ (ranOf r (now (out .exit)) ≡ sheetRun (now (sheet .entry)) (stateOf state) (now (inputs .entry)) (now (out .entry))) × (totalOf (r .rounds) ≤ tOf (now (sheet .entry)) * r .done .0) ⌝ }
+{
+    let why = sheet::check(sheet);
+    if number(why) != 0 {
+        return stops(state, why);
+    }
+    let plan = planned(sheet);
+    let delays = delays_of(&plan);
+    let readings = state.readings;
+    if !state_ok(sheet, &plan, &delays, state.at, &readings) {
+        return stops(state, Refusal::State);
+    }
+    if out.len() / 5 < inputs.len() {
+        return stops(state, Refusal::ShortOutput);
+    }
+    ticks(sheet, &plan, &delays, state, inputs, out)
+}
