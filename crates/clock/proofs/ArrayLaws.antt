@@ -2,12 +2,12 @@
 use mathlib.Core.Path.{_≡_, sym, ap, _∙_}
 use mathlib.Core.Bool.{cond}
 use mathlib.Core.List.{List}
-use Prim.Native.Nat.{ℕ, _+_, _<_}
+use Prim.Native.Nat.{ℕ, _+_, _≤_, _<_}
 use native.Mathlib.Decide.{ℕ-discrete}
 use native.Mathlib.Numerals.{add-one}
 use native.Mathlib.Omega.{arith}
 use lib.ListN.{length, getD, take, set, replicate, getD-replicate}
-use lib.Seq.{take-suc, take-suc-set, getD-set-same, getD-set-other}
+use lib.Seq.{take-all, take-suc, take-suc-set, getD-set-same, getD-set-other}
 use Rattle.sets.specs.Sets.{has}
 use Rattle.sets.proofs.Membership.{has-none}
 use Rattle.sets.proofs.Members.{Turn, without-it, without-other}
@@ -18,6 +18,9 @@ use Rattle.meaning.proofs.ListLaws.{rowFrom-ext, rowFrom-getD}
 
 pub copy-turn : (r l : List ℕ) (t : ℕ) → t < length r → t < length l → take t r ≡ take t l → take (t + 1) (set r t (getD l t 0)) ≡ take (t + 1) l
 copy-turn r l t h k e = rw (add-one, take-suc-set r t (getD l t 0) h, take-suc l t 0 k, e)
+
+pub copy-done : (r l : List ℕ) (t : ℕ) → length r ≤ t → length l ≤ t → take t r ≡ take t l → r ≡ l
+copy-done r l t h k e = sym (take-all t r h) ∙ e ∙ take-all t l k
 
 -- ---- a row with words by a rule at the members of a set
 

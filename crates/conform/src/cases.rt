@@ -1,4 +1,4 @@
-// The cases: what each reads after its number, the call that it makes and the line that it writes.
+// The cases of a sheet, check and sheet run: what each reads after its number, the call that it makes and the line that it writes.
 // A count beyond what the arrays hold counts as what they hold, and the text goes on after as many numbers.
 ghost use Prim.Native.Nat.{_+_, _≤_, _<_};
 ghost use lib.ListN.{length};
@@ -10,8 +10,8 @@ use meaning::refusal::Refusal;
 use meaning::refusal::number;
 use simulator::sheet_run::Ran;
 
-// The text that is left after a case, and how many words the current sheet has.
-pub struct Left {
+// The text that is left after a sheet, and how many words it has.
+pub struct Read {
     pub input: Input,
     pub words: usize,
 }
@@ -23,11 +23,11 @@ struct Readings {
 }
 
 // A run asked for: the state, how many input sets, how many output words; and what is left after it.
-struct Asked {
-    state: State,
-    inputs: usize,
-    outputs: usize,
-    input: Input,
+pub struct Asked {
+    pub state: State,
+    pub inputs: usize,
+    pub outputs: usize,
+    pub input: Input,
 }
 
 // A digest with one more word.
@@ -69,7 +69,7 @@ fn read_pairs(buf: &mut [u8; 65536], from: Input, pairs: usize) -> Readings {
 }
 
 // Reads a state, the input sets and the number of output words of a run.
-fn read_run(buf: &mut [u8; 65536], from: Input, inputs: &mut [u32]) -> Asked
+pub fn read_run(buf: &mut [u8; 65536], from: Input, inputs: &mut [u32]) -> Asked
     ensures { λ r. ⌜ (r .inputs ≤ length (now (inputs .entry))) × (r .outputs ≤ 400) ⌝ }
 {
     let at = text::number(buf, from);
@@ -95,7 +95,7 @@ fn read_run(buf: &mut [u8; 65536], from: Input, inputs: &mut [u32]) -> Asked
 }
 
 // A state into the line: where it is, then transition and reading for each reading that is not 0. The place after it.
-fn put_state(line: &mut [u8; 4096], from: usize, state: State) -> usize
+pub fn put_state(line: &mut [u8; 4096], from: usize, state: State) -> usize
     requires { ⌜ from ≤ 1024 ⌝ }
     ensures { λ r. ⌜ r ≤ from + 2709 ⌝ }
 {
@@ -134,14 +134,14 @@ fn write_check(refusal: Refusal) {
 }
 
 // Case 1: a length and the words of a sheet, which is the current one from now on.
-pub fn check(buf: &mut [u8; 65536], from: Input, sheet: &mut [u32]) -> Left
+pub fn check(buf: &mut [u8; 65536], from: Input, sheet: &mut [u32]) -> Read
     ensures { λ r. ⌜ r .words ≤ length (now (sheet .entry)) ⌝ }
 {
     let count = text::number(buf, from);
     let words = text::at_most(count.value, sheet.len());
     let input = text::numbers(buf, count.input, &mut sheet[..words]);
     write_check(sheet::check(&sheet[..words]));
-    Left { input, words }
+    Read { input, words }
 }
 
 // Writes the line of a sheet run, with the digest of its output words.

@@ -1,14 +1,26 @@
 // The case of a compilation: what it reads after its number, the call that it makes and the line that it writes.
+ghost use Prim.Native.Nat.{_≤_};
+ghost use lib.ListN.{length};
 use super::cases;
 use super::text;
 use super::text::Input;
 use compiler::Compiled;
 use meaning::refusal::number;
 
-// The text that is left after the case, and how many words the table has: 0 where the sheet was refused.
+// The text that is left after the case, how many table words were lent, and how many the table has: 0 where the sheet was refused.
 pub struct Built {
     pub input: Input,
-    pub table_words: usize,
+    pub lent: usize,
+    pub length: usize,
+}
+
+// Every word is 4294967295.
+fn blank(words: &mut [u32]) {
+    let mut i = 0;
+    while i < words.len() {
+        words[i] = 4294967295;
+        i += 1;
+    }
 }
 
 // Writes the line of a compilation, with the digests of the table words lent and of the work list.
@@ -24,23 +36,31 @@ fn write_compile(compiled: Compiled, table: u64, work: u64) {
     text::write(&mut line, at);
 }
 
-// Compiles the sheet and writes the line of the compilation; how many words the table has.
+// Compiles the sheet into blank words and writes the line of the compilation; how many words the table has.
 fn compile_sheet(sheet: &[u32], table: &mut [u32], work: &mut [u32]) -> usize {
+    blank(table);
     let compiled = compiler::compile(sheet, table, work);
-    let table_words = compiled.table_length;
+    let length = compiled.table_length;
     write_compile(compiled, cases::digest(table), cases::digest(work));
-    table_words
+    length
 }
 
-// Case 3: how many table words and how many work-list words are lent; a compilation of the current sheet.
-pub fn compile(buf: &mut [u8; 65536], from: Input, sheet: &[u32]) -> Built {
-    let mut table = [4294967295u32; 65536];
+// Case 3: how many table words and how many work-list words are lent; a compilation of the current sheet, whose table is the
+// current one from now on.
+pub fn compile(buf: &mut [u8; 65536], from: Input, sheet: &[u32], table: &mut [u32]) -> Built
+    ensures { λ r. ⌜ (r .lent ≤ length (now (table .entry))) × (r .length ≤ r .lent) ⌝ }
+{
     let mut work = [4294967295u32; 4096];
     let t = text::number(buf, from);
     let w = text::number(buf, t.input);
-    let table_lent = text::at_most(t.value, 65536);
-    let work_lent = text::at_most(w.value, 4096);
+    let lent = text::at_most(t.value, table.len());
+    let places = text::at_most(w.value, 4096);
     let input = w.input;
-    let table_words = compile_sheet(sheet, &mut table[..table_lent], &mut work[..work_lent]);
-    Built { input, table_words }
+    let words = compile_sheet(sheet, &mut table[..lent], &mut work[..places]);
+    let length = text::least(words, lent);
+    Built {
+        input,
+        lent,
+        length,
+    }
 }

@@ -1,14 +1,23 @@
 // The conformance program: cases on standard input, an answer for each on standard output.
 ghost use Prim.Native.Nat.{_≤_};
 ghost use lib.ListN.{length};
-ghost use Rattle.conform.specs.Steps.{wordsOf};
+ghost use Rattle.conform.specs.Steps.{Within};
 
 mod cases;
 mod compile_case;
+mod table_case;
 mod text;
 
-use cases::Left;
 use text::Input;
+
+// The text that is left, how many words the current sheet has, how many table words are lent, and how many of them the current
+// table has.
+struct Left {
+    input: Input,
+    words: usize,
+    lent: usize,
+    length: usize,
+}
 
 // What a case leaves, or that there are no more.
 enum Step {
@@ -16,25 +25,90 @@ enum Step {
     Done,
 }
 
-// Reads one case and answers it. The first words of sheet are the current sheet. A number that is no case ends the program.
-fn answer(buf: &mut [u8; 65536], sheet: &mut [u32], from: Left) -> Step
-    requires { ⌜ from .words ≤ length (now sheet) ⌝ }
-    ensures { λ r. ⌜ wordsOf r ≤ length (now (sheet .entry)) ⌝ }
+// Reads one case and answers it. The first words of sheet and table are the current ones. A number that is no case ends the
+// program.
+fn answer(buf: &mut [u8; 65536], sheet: &mut [u32], table: &mut [u32], from: Left) -> Step
+    requires { ⌜ (from .words ≤ length (now sheet)) × (from .lent ≤ length (now table)) × (from .length ≤ from .lent) ⌝ }
+    ensures { λ r. ⌜ Within r (length (now (sheet .entry))) (length (now (table .entry))) ⌝ }
 {
     let words = from.words;
+    let lent = from.lent;
+    let length = from.length;
     let case = text::number(buf, from.input);
     let input = case.input;
     let kind = case.value;
     match kind {
-        1 => Step::Next(cases::check(buf, input, sheet)),
+        1 => {
+            let read = cases::check(buf, input, sheet);
+            let input = read.input;
+            Step::Next(Left {
+                input,
+                words: read.words,
+                lent,
+                length,
+            })
+        }
         2 => Step::Next(Left {
             input: cases::sheet_run(buf, input, &sheet[..words]),
             words,
+            lent,
+            length,
         }),
         3 => {
-            let built = compile_case::compile(buf, input, &sheet[..words]);
+            let built = compile_case::compile(buf, input, &sheet[..words], table);
             let input = built.input;
-            Step::Next(Left { input, words })
+            Step::Next(Left {
+                input,
+                words,
+                lent: built.lent,
+                length: built.length,
+            })
+        }
+        _ => answer_table(
+            buf,
+            table,
+            kind,
+            Left {
+                input,
+                words,
+                lent,
+                length,
+            },
+        ),
+    }
+}
+
+// A case of the current table: a run, a word written, another length.
+fn answer_table(buf: &mut [u8; 65536], table: &mut [u32], kind: u32, from: Left) -> Step
+    requires { ⌜ (from .lent ≤ length (now table)) × (from .length ≤ from .lent) ⌝ }
+    ensures { λ r. ⌜ Within r (from .words) (length (now (table .entry))) ⌝ }
+{
+    let words = from.words;
+    let lent = from.lent;
+    let length = from.length;
+    let input = from.input;
+    match kind {
+        4 => Step::Next(Left {
+            input: table_case::table_run(buf, input, &table[..length]),
+            words,
+            lent,
+            length,
+        }),
+        5 => Step::Next(Left {
+            input: table_case::write_word(buf, input, &mut table[..lent]),
+            words,
+            lent,
+            length,
+        }),
+        6 => {
+            let n = text::number(buf, input);
+            let input = n.input;
+            Step::Next(Left {
+                input,
+                words,
+                lent,
+                length: text::at_most(n.value, lent),
+            })
         }
         _ => Step::Done,
     }
@@ -42,14 +116,16 @@ fn answer(buf: &mut [u8; 65536], sheet: &mut [u32], from: Left) -> Step
 
 // Answers the cases to the last. The turns are counted down from a number that no run uses up, since nothing says that
 // the text ends.
-fn answer_all(buf: &mut [u8; 65536], sheet: &mut [u32]) {
+fn answer_all(buf: &mut [u8; 65536], sheet: &mut [u32], table: &mut [u32]) {
     let mut left = Left {
         input: Input { at: 0, end: 0 },
         words: 0,
+        lent: 0,
+        length: 0,
     };
     let mut turns = u64::MAX;
     while 0 < turns {
-        let step = answer(buf, sheet, left);
+        let step = answer(buf, sheet, table, left);
         let Step::Next(after) = step else {
             return;
         };
@@ -61,5 +137,6 @@ fn answer_all(buf: &mut [u8; 65536], sheet: &mut [u32]) {
 fn main() {
     let mut buf = [0u8; 65536];
     let mut sheet = [0u32; 4096];
-    answer_all(&mut buf, &mut sheet);
+    let mut table = [0u32; 65536];
+    answer_all(&mut buf, &mut sheet, &mut table);
 }

@@ -94,6 +94,13 @@ pub fn at_most(value: u32, most: usize) -> usize
     if count < most { count } else { most }
 }
 
+// The smaller of two.
+pub fn least(a: usize, b: usize) -> usize
+    ensures { λ r. ⌜ r ≤ b ⌝ }
+{
+    if a < b { a } else { b }
+}
+
 // Fills words with the numbers that come next; what is left after them.
 pub fn numbers(buf: &mut [u8; 65536], from: Input, words: &mut [u32]) -> Input {
     let mut input = from;

@@ -1,9 +1,8 @@
 -- A block's tests one by one: what a sound block says, and what each test comes to as the code makes it. Assumes nothing.
-use mathlib.Core.Path.{_≡_, sym, ap, _∙_, subst}
-use mathlib.Core.Bool.{Bool, true, not, _&&_, cond, and-assoc, and-comm, and-true}
+use mathlib.Core.Path.{_≡_, ap, _∙_}
+use mathlib.Core.Bool.{Bool, true, not, _&&_, cond, and-true}
 use mathlib.Core.List.{List}
 use Prim.Native.Nat.{ℕ, _+_, _*_, _^_, _≤_, _<_}
-use native.Mathlib.Numerals.{add-one}
 use native.Mathlib.Omega.{arith}
 use lib.Dec.{T, eqb, ltb, eqb→eq, leb→le, ltb→lt, lt→ltb}
 use lib.ListN.{getD, take, drop}
@@ -11,18 +10,12 @@ use lib.Seq.{getD-take, getD-drop}
 use borrow.Author.Tests.{le-leb, eq-eqb}
 use Rattle.sets.specs.Sets.{has, minus, size, every, everyIn}
 use Rattle.sets.proofs.Tests.{and-l, and-r, and-i, bool-ext}
-use Rattle.sets.proofs.Facts.{setOf-e, setOf-i, every-e, every-i, everyIn-e, everyIn-i}
-use Rattle.sets.proofs.Quantifiers.{minus-every}
+use Rattle.sets.proofs.Facts.{setOf-e, setOf-i, everyIn-e, everyIn-i}
+use Rattle.sets.proofs.Quantifiers.{every-same, minus-every}
 use Rattle.meaning.specs.Lists.{allOf}
 use Rattle.meaning.specs.Table.{wordIn, tIn, bIn, delayIn, offsetIn, lengthIn, maskIn, timersIn, cellsIn, cellWord, blockOk}
-use Rattle.sets.proofs.Quantifiers.{every-same}
 use Rattle.meaning.proofs.ListLaws.{allOf-e}
 use Rattle.layout.specs.Parts.{delayedIn, nextOk}
-
--- a loop that does not leave: the flag so far, with the two tests of the next number
-pub every-and : (p : ℕ → Bool) (m : ℕ) (ok a b : Bool) → ok ≡ every m p → p m ≡ (a && b) → (ok && a && b) ≡ every (m + 1) p
-unfolding every
-every-and p m ok a b h e = rw (add-one, h, e) (and-assoc (every m p) a b ∙ and-comm (every m p) (a && b))
 
 -- ---- what a sound block says
 

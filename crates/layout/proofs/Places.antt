@@ -1,23 +1,20 @@
 -- What the head and the pairs say once they have passed: every word that the code looks at is there. Assumes nothing.
-use mathlib.Core.Path.{_≡_, refl, sym, ap, _∙_}
-use mathlib.Core.Logic.{_⊎_, inl, inr}
+use mathlib.Core.Path.{_≡_, refl}
 use mathlib.Core.Bool.{and-true}
 use mathlib.Core.List.{List}
-use Prim.Native.Nat.{ℕ, zero, suc, _+_, _*_, _%_, _^_, _≤_, _<_}
-use native.Mathlib.Nat.{le-refl, le-trans, le-of-eq, le-of-suc-le-suc, eq-or-lt-of-le, mod-eq-of-lt}
+use Prim.Native.Nat.{ℕ, suc, _+_, _*_, _≤_, _<_}
+use native.Mathlib.Nat.{le-refl, le-trans, le-of-eq}
 use native.Mathlib.Numerals.{add-one}
 use native.Mathlib.Omega.{arith}
 use lib.Dec.{T, eqb, leb, eqb→eq, leb→le}
 use lib.ListN.{length}
-use lib.Pow.{pow-add, pow-lt, pow-mono}
 use borrow.Author.Tests.{le-leb, eq-eqb}
 use Rattle.sets.specs.Sets.{every}
 use Rattle.sets.proofs.Tests.{and-l, and-r}
 use Rattle.sets.proofs.Facts.{every-e}
-use Rattle.sets.proofs.Membership.{one-shl}
 use Rattle.meaning.specs.Lists.{allOf}
 use Rattle.meaning.specs.Table.{wordIn, kIn, tIn, bIn, offsetIn, lengthIn, endBeforeIn}
-use Rattle.meaning.proofs.ListLaws.{allOf-e}
+use Rattle.meaning.proofs.ListLaws.{allOf-e, steps-le}
 use Rattle.layout.specs.Parts.{headOk, pairsOk}
 
 -- ---- the head
@@ -80,26 +77,6 @@ module _ (w : List ℕ) (h : T (pairsOk w)) where
   unfolding endBeforeIn
   end-next b l = let at = offset-is b l in omega arith
 
-  end-le : (a b : ℕ) → a ≤ b → b ≤ bIn w → endBeforeIn w a ≤ endBeforeIn w b
-  end-le a zero k l = le-of-eq (ap (endBeforeIn w) (omega arith))
-  end-le a (suc b) k l = go (eq-or-lt-of-le k) (λ i. end-le a b i (omega arith))
-    where
-      go : (a ≡ suc b) ⊎ (a < suc b) → (a ≤ b → endBeforeIn w a ≤ endBeforeIn w b) → endBeforeIn w a ≤ endBeforeIn w (suc b)
-      go (inl e) ih = le-of-eq (ap (endBeforeIn w) e)
-      go (inr i) ih = le-trans (ih (le-of-suc-le-suc i)) (end-next b l)
-
   pub block-room : (b : ℕ) → b < bIn w → offsetIn w b + lengthIn w b ≤ length w
   unfolding endBeforeIn
-  block-room b l = le-trans (end-le (suc b) (bIn w) l (le-refl (bIn w))) (le-of-eq last-end)
-
--- ---- the count of cells
-
--- `(1 << a) << k`
-pub cells-shl : (a k : ℕ) → a ≤ 6 → k ≤ 6 → 1 * 2 ^ a % 2 ^ 64 * 2 ^ k % 2 ^ 64 ≡ 2 ^ (a + k)
-cells-shl a k h j =
-    ap (λ (x : ℕ). x * 2 ^ k % 2 ^ 64) (one-shl 64 a (omega arith))
-    ∙ ap (λ (x : ℕ). x % 2 ^ 64) (sym (pow-add 2 a k))
-    ∙ mod-eq-of-lt (pow-lt {j = 64} (omega arith))
-
-pub cells-small : (a k : ℕ) → a ≤ 6 → k ≤ 6 → 2 ^ (a + k) ≤ 4096
-cells-small a k h j = pow-mono {j = 12} (omega arith)
+  block-room b l = le-trans (steps-le (endBeforeIn w) (bIn w) end-next (suc b) (bIn w) l (le-refl (bIn w))) (le-of-eq last-end)

@@ -1,7 +1,7 @@
 -- What the completion of a set holds. Assumes nothing.
 use mathlib.Core.Path.{_≡_, refl, sym, ap, _∙_, subst}
 use mathlib.Core.Logic.{_⊎_, inl, inr}
-use mathlib.Core.Bool.{Bool, true, false, not, _&&_, cond}
+use mathlib.Core.Bool.{Bool, true, false, not, _&&_}
 use mathlib.Core.List.{List}
 use Prim.Native.Nat.{ℕ, zero, suc, _≤_, _<_}
 use native.Mathlib.Nat.{le-refl}
@@ -12,11 +12,9 @@ use Rattle.sets.specs.Sets.{has, some}
 use Rattle.sets.proofs.Tests.{is-true, of-true, and-l, and-r, and-i, or-e, or-l, or-r}
 use Rattle.sets.proofs.Facts.{setOf-e, setOf-i, some-e, some-i}
 use Rattle.meaning.specs.Sheet.{nOf, kind, parent, first, isChild}
-use Rattle.meaning.specs.Check.{modeOk}
 use Rattle.meaning.specs.Hierarchy.{brings, completedIn, complete}
-use Rattle.meaning.proofs.ListLaws.{allOf-e}
-use Rattle.meaning.proofs.SheetLaws.{Sound}
-use Rattle.meaning.proofs.Containment.{Within, up, isChild-e, isChild-i, parent-le-of-suc, parent-n}
+use Rattle.meaning.proofs.SheetLaws.{parent-n, parent-le-of-suc, Sound, tree, first-child}
+use Rattle.meaning.proofs.Containment.{Within, up, isChild-e, isChild-i}
 
 -- m is in x completed
 pub data Comp (s : List ℕ) (x : ℕ) : ℕ → Type 0 where
@@ -46,7 +44,7 @@ module _ (s : List ℕ) (sd : Sound s) (x : ℕ) where
       or-r (has x m) (ltb 0 m && brings s x (parent s m) m && completedIn s f x (parent s m))
       (and-i (ltb 0 m && brings s x (parent s m) m) (completedIn s f x (parent s m))
       (and-i (ltb 0 m) (brings s x (parent s m) m) (lt→ltb 0 m p) b)
-      (of-comp f c (parent-le-of-suc s sd f m h l) (parent-n s sd m l)))
+      (of-comp f c (parent-le-of-suc s (tree s sd) f m h l) (parent-n s (tree s sd) m l)))
 
   pub complete-e : (m : ℕ) → T (has (complete s x) m) → (m < nOf s) × Comp s x m
   unfolding complete
@@ -75,11 +73,10 @@ pub record Whole (s : List ℕ) (K e : ℕ) : Type 0 where
 module _ (s : List ℕ) (sd : Sound s) where
   -- a serial mode's first mode is a child
   first-ok : (m : ℕ) → m < nOf s → kind s m ≡ 1 → (first s m < nOf s) × (0 < first s m) × (parent s (first s m) ≡ m)
-  unfolding modeOk
   first-ok m l k =
-      let h = subst (λ (b : Bool). T (cond b (ltb (first s m) (nOf s) && isChild s m (first s m)) (eqb (first s m) 0))) (eq-eqb (kind s m) 1 k) (allOf-e _ (sd .modes m l) .1 .1 .1 .0) in
-      let c = isChild-e s m (first s m) (and-r (ltb (first s m) (nOf s)) (isChild s m (first s m)) h) in
-      (ltb→lt (first s m) (nOf s) (and-l (ltb (first s m) (nOf s)) (isChild s m (first s m)) h), c .0, c .1)
+      let f = first-child s sd m l k in
+      let c = isChild-e s m (first s m) (f .1) in
+      (f .0, c .0, c .1)
 
   module _ (x e : ℕ) (en : e < nOf s) (b : Based s x e) where
     some-child : ℕ → Bool
@@ -105,7 +102,7 @@ module _ (s : List ℕ) (sd : Sound s) where
 
     comp-below : {m : ℕ} → Comp s x m → m < nOf s → Within s e m
     comp-below (base {m} h) l = b .below m l h
-    comp-below (down {m} p g c) l = up p (comp-below c (parent-n s sd m l))
+    comp-below (down {m} p g c) l = up p (comp-below c (parent-n s (tree s sd) m l))
 
     comp-linked : {m : ℕ} → Comp s x m → m < nOf s → (m ≡ e → ⊥) → Comp s x (parent s m)
     comp-linked (base {m} h) l ne = base (b .linked m l h ne)
@@ -153,7 +150,7 @@ module _ (s : List ℕ) (sd : Sound s) where
         record {
           below = λ m l h. comp-below (complete-e s sd x m h .1) l;
           top = complete-i s sd x e en (base (b .top));
-          linked = λ m l h ne. complete-i s sd x (parent s m) (parent-n s sd m l) (comp-linked (complete-e s sd x m h .1) l ne);
+          linked = λ m l h ne. complete-i s sd x (parent s m) (parent-n s (tree s sd) m l) (comp-linked (complete-e s sd x m h .1) l ne);
           one = λ m l h k. let r = comp-one m l (complete-e s sd x m h .1) k in (r .0, r .1, r .2, r .3, complete-i s sd x (r .0) (r .1) (r .4));
           lone = λ y z ly lz py pz g k h j. comp-lone y z ly lz py pz g k (complete-e s sd x y h .1) (complete-e s sd x z j .1);
           every = λ y l p k h. complete-i s sd x y l (down p (parallel y k) (complete-e s sd x (parent s y) h .1));

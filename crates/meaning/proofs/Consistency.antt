@@ -20,9 +20,9 @@ use Rattle.meaning.specs.Reaction.{TickSets, isDelay, delay, isDue, alte
 use Rattle.meaning.specs.Tick.{begin, chosen, tick}
 use Rattle.meaning.specs.Promises.{KeepsConsistent}
 use Rattle.meaning.proofs.ListLaws.{Holds, allOf-e, allOf-i}
-use Rattle.meaning.proofs.SheetLaws.{Sound, sound, n-pos}
+use Rattle.meaning.proofs.SheetLaws.{parent-n, Sound, sound, n-pos, tree}
 use Rattle.meaning.proofs.TickLaws.{Taken, rounds-ind, chosen-lt, chosen-triggered, modes-after}
-use Rattle.meaning.proofs.Containment.{Within, here, up, isChild-e, isChild-i, parent-n, parent-root, within-le, within-trans, within-strict, within-total, contains-e, contains-i, not-above, siblings, Ends, ends}
+use Rattle.meaning.proofs.Containment.{Within, here, up, isChild-e, isChild-i, within-le, within-trans, within-strict, within-total, contains-e, contains-i, not-above, siblings, Ends, ends}
 use Rattle.meaning.proofs.Completion.{complete-e, Whole, whole}
 
 -- ---- consistency in parts
@@ -54,12 +54,12 @@ module _ (s : List ℕ) (sd : Sound s) where
             let c = isChild-e s m (r .0) (g .2) in
             (r .0, r .1, c .0, c .1, g .1);
         lone = λ y z ly lz py pz e k g j.
-            let r = unique (parent s y) (parent-n s sd y ly) (ok y ly g .0) k in
+            let r = unique (parent s y) (parent-n s (tree s sd) y ly) (ok y ly g .0) k in
             r .3 y (those-i (nOf s) x (isChild s (parent s y)) y ly g (isChild-i s (parent s y) y py refl))
             ∙ sym (r .3 z (those-i (nOf s) x (isChild s (parent s y)) z lz j (isChild-i s (parent s y) z pz (sym e))));
         every = λ y l p k g.
             everyIn-e (nOf s) (setOf (nOf s) (isChild s (parent s y))) (has x)
-            (implied (eqb (kind s (parent s y)) 2) (everyIn (nOf s) (setOf (nOf s) (isChild s (parent s y))) (has x)) (ok (parent s y) (parent-n s sd y l) g .1 .1 .0) (of-true (eq-eqb (kind s (parent s y)) 2 k)))
+            (implied (eqb (kind s (parent s y)) 2) (everyIn (nOf s) (setOf (nOf s) (isChild s (parent s y))) (has x)) (ok (parent s y) (parent-n s (tree s sd) y l) g .1 .1 .0) (of-true (eq-eqb (kind s (parent s y)) 2 k)))
             y l (setOf-i (nOf s) (isChild s (parent s y)) y l (isChild-i s (parent s y) y p refl));
       }
     where
@@ -118,7 +118,7 @@ module _ (s : List ℕ) (sd : Sound s) where
       par m l h = go (eqb m 0) refl
         where
           go : (b : Bool) → eqb m 0 ≡ b → T (has x (parent s m))
-          go true e = subst (λ (i : ℕ). T (has x i)) (sym (ap (parent s) (eqb-true m 0 e) ∙ parent-root s sd)) (w .top)
+          go true e = subst (λ (i : ℕ). T (has x i)) (sym (ap (parent s) (eqb-true m 0 e) ∙ tree s sd .root)) (w .top)
           go false e = w .linked m l h (eqb-false m 0 e)
 
   has-root : (m : ℕ) → T (has (single 0) m) → m ≡ 0
@@ -138,14 +138,14 @@ module _ (s : List ℕ) (sd : Sound s) where
   unfolding enters
   enters-whole t lt = whole s sd path e en (record { below = λ m l h. path-e m h .0; top = path-i e en here (E .right .holds); linked = linked; lone = lone })
     where
-      E : Ends s sd t
+      E : Ends s t
       E = ends s sd t lt
 
       e : ℕ
       e = enterTop s t
 
       en : e < nOf s
-      en = lt-of-le-of-lt (within-le s sd (E .right .holds) (E .target-n)) (E .target-n)
+      en = lt-of-le-of-lt (within-le s (tree s sd) (E .right .holds) (E .target-n)) (E .target-n)
 
       path : ℕ
       path = setOf (nOf s) (λ m. contains s e m && contains s m (target s t))
@@ -153,25 +153,25 @@ module _ (s : List ℕ) (sd : Sound s) where
       path-e : (m : ℕ) → T (has path m) → Within s e m × Within s m (target s t)
       path-e m h =
           let g = setOf-e (nOf s) (λ i. contains s e i && contains s i (target s t)) m h .1 in
-          (contains-e s sd e m (and-l (contains s e m) (contains s m (target s t)) g), contains-e s sd m (target s t) (and-r (contains s e m) (contains s m (target s t)) g))
+          (contains-e s (tree s sd) e m (and-l (contains s e m) (contains s m (target s t)) g), contains-e s (tree s sd) m (target s t) (and-r (contains s e m) (contains s m (target s t)) g))
 
       path-i : (m : ℕ) → m < nOf s → Within s e m → Within s m (target s t) → T (has path m)
       path-i m l a b =
           setOf-i (nOf s) (λ i. contains s e i && contains s i (target s t)) m l
-          (and-i (contains s e m) (contains s m (target s t)) (contains-i s sd m a l) (contains-i s sd (target s t) b (E .target-n)))
+          (and-i (contains s e m) (contains s m (target s t)) (contains-i s (tree s sd) m a l) (contains-i s (tree s sd) (target s t) b (E .target-n)))
 
       linked : (m : ℕ) → m < nOf s → T (has path m) → (m ≡ e → ⊥) → T (has path (parent s m))
       linked m l h ne =
           let g = path-e m h in
-          let k = within-strict s sd (g .0) (λ q. ne (sym q)) in
-          path-i (parent s m) (parent-n s sd m l) (k .1) (within-trans s sd (up (k .0) here) (g .1))
+          let k = within-strict (g .0) (λ q. ne (sym q)) in
+          path-i (parent s m) (parent-n s (tree s sd) m l) (k .1) (within-trans (up (k .0) here) (g .1))
 
       lone : (y z : ℕ) → y < nOf s → z < nOf s → 0 < y → 0 < z → parent s y ≡ parent s z → T (has path y) → T (has path z) → y ≡ z
-      lone y z ly lz py pz q h k = go (within-total s sd (path-e y h .1) (path-e z k .1))
+      lone y z ly lz py pz q h k = go (within-total (path-e y h .1) (path-e z k .1))
         where
           go : Within s y z ⊎ Within s z y → y ≡ z
-          go (inl w) = siblings s sd y z ly py pz q w
-          go (inr w) = sym (siblings s sd z y lz pz py (sym q) w)
+          go (inl w) = siblings s (tree s sd) y z ly py pz q w
+          go (inr w) = sym (siblings s (tree s sd) z y lz pz py (sym q) w)
 
   pub enters-lt : (t m : ℕ) → T (has (enters s t) m) → m < nOf s
   unfolding enters
@@ -182,11 +182,11 @@ module _ (s : List ℕ) (sd : Sound s) where
   unfolding exits
   exits-e t m h =
       let r = setOf-e (nOf s) (contains s (exitTop s t)) m h in
-      (r .0, contains-e s sd (exitTop s t) m (r .1))
+      (r .0, contains-e s (tree s sd) (exitTop s t) m (r .1))
 
   pub exits-i : (t m : ℕ) → m < nOf s → Within s (exitTop s t) m → T (has (exits s t) m)
   unfolding exits
-  exits-i t m l w = setOf-i (nOf s) (contains s (exitTop s t)) m l (contains-i s sd m w l)
+  exits-i t m l w = setOf-i (nOf s) (contains s (exitTop s t)) m l (contains-i s (tree s sd) m w l)
 
   -- what the transitions es exit and enter together
   pub exiting-e : (z : TickSets) (es m : ℕ) → T (has (exiting s z es) m) → T (has (z .modes) m) × ((t : ℕ) × (t < tOf s) × T (has es t) × T (has (exits s t) m))
@@ -217,17 +217,17 @@ module _ (s : List ℕ) (sd : Sound s) where
   module _ (es : ℕ) (small : (t : ℕ) → T (has es t) → t < tOf s)
       (apart : (t u : ℕ) → T (has es t) → T (has es u) → (t ≡ u → ⊥) → T (conflict s t u) → ⊥) where
     -- the ends of t; its two tops and its meeting mode are modes, and the meeting mode contains both tops
-    E : (t : ℕ) → T (has es t) → Ends s sd t
+    E : (t : ℕ) → T (has es t) → Ends s t
     E t m = ends s sd t (small t m)
 
     c-n : (t : ℕ) → T (has es t) → exitTop s t < nOf s
-    c-n t m = lt-of-le-of-lt (within-le s sd (E t m .left .holds) (E t m .source-n)) (E t m .source-n)
+    c-n t m = lt-of-le-of-lt (within-le s (tree s sd) (E t m .left .holds) (E t m .source-n)) (E t m .source-n)
 
     e-n : (t : ℕ) → T (has es t) → enterTop s t < nOf s
-    e-n t m = lt-of-le-of-lt (within-le s sd (E t m .right .holds) (E t m .target-n)) (E t m .target-n)
+    e-n t m = lt-of-le-of-lt (within-le s (tree s sd) (E t m .right .holds) (E t m .target-n)) (E t m .target-n)
 
     p-n : (t : ℕ) → T (has es t) → meeting s t < nOf s
-    p-n t m = subst (λ (i : ℕ). i < nOf s) (E t m .left .par) (parent-n s sd (exitTop s t) (c-n t m))
+    p-n t m = subst (λ (i : ℕ). i < nOf s) (E t m .left .par) (parent-n s (tree s sd) (exitTop s t) (c-n t m))
 
     p-c : (t : ℕ) → T (has es t) → Within s (meeting s t) (exitTop s t)
     p-c t m = up (E t m .left .pos) (subst (λ (i : ℕ). Within s (meeting s t) i) (sym (E t m .left .par)) here)
@@ -240,8 +240,8 @@ module _ (s : List ℕ) (sd : Sound s) where
     same t u a b w = go (eqb t u) refl
       where
         con : Within s (meeting s t) (meeting s u) ⊎ Within s (meeting s u) (meeting s t) → T (conflict s t u)
-        con (inl v) = unfold conflict in (or-l (contains s (meeting s t) (meeting s u)) (contains s (meeting s u) (meeting s t)) (contains-i s sd (meeting s u) v (p-n u b)))
-        con (inr v) = unfold conflict in (or-r (contains s (meeting s t) (meeting s u)) (contains s (meeting s u) (meeting s t)) (contains-i s sd (meeting s t) v (p-n t a)))
+        con (inl v) = unfold conflict in (or-l (contains s (meeting s t) (meeting s u)) (contains s (meeting s u) (meeting s t)) (contains-i s (tree s sd) (meeting s u) v (p-n u b)))
+        con (inr v) = unfold conflict in (or-r (contains s (meeting s t) (meeting s u)) (contains s (meeting s u) (meeting s t)) (contains-i s (tree s sd) (meeting s t) v (p-n t a)))
 
         go : (v : Bool) → eqb t u ≡ v → t ≡ u
         go true e = eqb-true t u e
@@ -257,11 +257,11 @@ module _ (s : List ℕ) (sd : Sound s) where
       where
         go : (v : Bool) → eqb (enterTop s t) y ≡ v → Within s (meeting s t) (parent s y)
         go true e = subst (λ (i : ℕ). Within s (meeting s t) i) (sym (E t a .right .par) ∙ ap (parent s) (eqb-true (enterTop s t) y e)) here
-        go false e = within-trans s sd (p-e t a) (within-strict s sd w (eqb-false (enterTop s t) y e) .1)
+        go false e = within-trans (p-e t a) (within-strict w (eqb-false (enterTop s t) y e) .1)
 
     -- what one of them exits, none of them enters
     pub exits-enters-apart : (t u : ℕ) → T (has es t) → T (has es u) → (m : ℕ) → T (has (exits s t) m) → T (has (enters s u) m) → ⊥
-    exits-enters-apart t u a b m h k = go (within-total s sd out in′)
+    exits-enters-apart t u a b m h k = go (within-total out in′)
       where
         l : m < nOf s
         l = exits-e t m h .0
@@ -273,7 +273,7 @@ module _ (s : List ℕ) (sd : Sound s) where
         top = W u b .below m l k
 
         tu : t ≡ u
-        tu = same t u a b (within-total s sd (within-trans s sd (p-c t a) out) (within-trans s sd (p-e u b) top))
+        tu = same t u a b (within-total (within-trans (p-c t a) out) (within-trans (p-e u b) top))
 
         in′ : Within s (enterTop s t) m
         in′ = subst (λ (i : ℕ). Within s (enterTop s i) m) (sym tu) top
@@ -282,8 +282,8 @@ module _ (s : List ℕ) (sd : Sound s) where
         par = E t a .left .par ∙ sym (E t a .right .par)
 
         go : Within s (exitTop s t) (enterTop s t) ⊎ Within s (enterTop s t) (exitTop s t) → ⊥
-        go (inl w) = E t a .distinct (siblings s sd (exitTop s t) (enterTop s t) (c-n t a) (E t a .left .pos) (E t a .right .pos) par w)
-        go (inr w) = E t a .distinct (sym (siblings s sd (enterTop s t) (exitTop s t) (e-n t a) (E t a .right .pos) (E t a .left .pos) (sym par) w))
+        go (inl w) = E t a .distinct (siblings s (tree s sd) (exitTop s t) (enterTop s t) (c-n t a) (E t a .left .pos) (E t a .right .pos) par w)
+        go (inr w) = E t a .distinct (sym (siblings s (tree s sd) (enterTop s t) (exitTop s t) (e-n t a) (E t a .right .pos) (E t a .left .pos) (sym par) w))
 
     -- a round from a consistent set where every source is active
     module _ (z : TickSets) (M : Cons s (z .modes)) (on : (t : ℕ) → T (has es t) → T (has (z .modes) (source s t))) where
@@ -331,7 +331,7 @@ module _ (s : List ℕ) (sd : Sound s) where
       -- what contains a mode of the set is in the set
       anc : {a m : ℕ} → Within s a m → m < nOf s → T (has (z .modes) m) → T (has (z .modes) a)
       anc here l h = h
-      anc (up {m} p w) l h = anc w (parent-n s sd m l) (M .par m l h)
+      anc (up {m} p w) l h = anc w (parent-n s (tree s sd) m l) (M .par m l h)
 
       c-in : (t : ℕ) → T (has es t) → T (has (z .modes) (exitTop s t))
       c-in t m = anc (E t m .left .holds) (E t m .source-n) (on t m)
@@ -355,8 +355,8 @@ module _ (s : List ℕ) (sd : Sound s) where
       stays t a = (
         p-in t a,
         λ u b w.
-            let q = same t u a b (inr (within-trans s sd (p-c u b) w)) in
-            not-above s sd (exitTop s t) (E t a .left .pos) (c-n t a) (subst (λ (i : ℕ). Within s (exitTop s t) i) (sym (E t a .left .par)) (subst (λ (i : ℕ). Within s (exitTop s i) (meeting s t)) (sym q) w)),
+            let q = same t u a b (inr (within-trans (p-c u b) w)) in
+            not-above s (tree s sd) (exitTop s t) (E t a .left .pos) (c-n t a) (subst (λ (i : ℕ). Within s (exitTop s t) i) (sym (E t a .left .par)) (subst (λ (i : ℕ). Within s (exitTop s i) (meeting s t)) (sym q) w)),
       )
 
       -- not exited with its parent, so exited alone
@@ -365,14 +365,14 @@ module _ (s : List ℕ) (sd : Sound s) where
         where
           go : (v : Bool) → eqb (exitTop s u) m ≡ v → exitTop s u ≡ m
           go true e = eqb-true (exitTop s u) m e
-          go false e = absurd (no-w (within-strict s sd w (eqb-false (exitTop s u) m e) .1))
+          go false e = absurd (no-w (within-strict w (eqb-false (exitTop s u) m e) .1))
 
       old-par : (m : ℕ) → m < nOf s → Old m → Old (parent s m)
       unfolding Old
       old-par m l o = (M .par m l (o .0), λ t a w. o .1 t a (back w (eq-zero-or-pos m)))
         where
           back : {a : ℕ} → Within s a (parent s m) → (m ≡ 0) ⊎ (0 < m) → Within s a m
-          back {a} w (inl e) = subst (λ (i : ℕ). Within s a i) (ap (parent s) e ∙ parent-root s sd ∙ sym e) w
+          back {a} w (inl e) = subst (λ (i : ℕ). Within s a i) (ap (parent s) e ∙ tree s sd .root ∙ sym e) w
           back w (inr p) = up p w
 
       new-par : (m : ℕ) → m < nOf s → Old m ⊎ In m → T (has x′ (parent s m))
@@ -425,7 +425,7 @@ module _ (s : List ℕ) (sd : Sound s) where
               let k = exited t a y ly py (q ∙ ap (parent s) (eqb-true v (enterTop s t) e) ∙ E t a .right .par) (o .0) in
               o .1 t a (subst (λ (j : ℕ). Within s j y) k here)
           go false e =
-              let w = within-strict s sd (W t a .below v lv (i .2)) (λ k. eqb-false v (enterTop s t) e (sym k)) .1 in
+              let w = within-strict (W t a .below v lv (i .2)) (λ k. eqb-false v (enterTop s t) e (sym k)) .1 in
               o .1 t a (replaced t a y ly (o .0) (up py (subst (λ (j : ℕ). Within s (enterTop s t) j) (sym q) w)))
 
       new-lone : (y v : ℕ) → y < nOf s → v < nOf s → 0 < y → 0 < v → parent s y ≡ parent s v → kind s (parent s y) ≡ 1 → Old y ⊎ In y → Old v ⊎ In v → y ≡ v
@@ -434,7 +434,7 @@ module _ (s : List ℕ) (sd : Sound s) where
       new-lone y v ly lv py pv q k (inl o) (inr i) = absurd (mixed y v ly lv py q o i)
       new-lone y v ly lv py pv q k (inr i) (inl o) = absurd (mixed v y lv ly pv (sym q) o i)
       new-lone y v ly lv py pv q k (inr i) (inr j) =
-          let tu = same (i .0) (j .0) (i .1) (j .1) (within-total s sd (met (i .0) (i .1) y (W (i .0) (i .1) .below y ly (i .2)))
+          let tu = same (i .0) (j .0) (i .1) (j .1) (within-total (met (i .0) (i .1) y (W (i .0) (i .1) .below y ly (i .2)))
           (subst (λ (m : ℕ). Within s (meeting s (j .0)) m) (sym q) (met (j .0) (j .1) v (W (j .0) (j .1) .below v lv (j .2))))) in
           W (i .0) (i .1) .lone y v ly lv py pv q k (i .2) (subst (λ (t : ℕ). T (has (enters s t) v)) (sym tu) (j .2))
 
@@ -457,11 +457,11 @@ module _ (s : List ℕ) (sd : Sound s) where
             par = λ m l h. new-par m l (new-e m l h);
             one = λ m l h k. new-one m l k (new-e m l h);
             lone = λ y v ly lv py pv q k h j. new-lone y v ly lv py pv q k (new-e y ly h) (new-e v lv j);
-            every = λ y l p k h. new-every y l p k (new-e (parent s y) (parent-n s sd y l) h);
+            every = λ y l p k h. new-every y l p k (new-e (parent s y) (parent-n s (tree s sd) y l) h);
           }
         where
           root-old : Old 0
-          root-old = unfold Old in (M .root, λ t a w. not-suc-le-zero (le-trans (E t a .left .pos) (within-le s sd w (n-pos s sd))))
+          root-old = unfold Old in (M .root, λ t a w. not-suc-le-zero (le-trans (E t a .left .pos) (within-le s (tree s sd) w (n-pos s sd))))
 
   -- ---- a tick
 

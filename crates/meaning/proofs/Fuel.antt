@@ -1,28 +1,30 @@
--- The fuel of the recursions up the tree cuts nothing off. Assumes nothing.
+-- The recursions up the tree: their fuel cuts nothing off, so that a step up leaves them as they were. Assumes nothing.
 use mathlib.Core.Path.{_≡_, refl, sym, ap, _∙_}
-use mathlib.Core.Bool.{cond}
+use mathlib.Core.Bool.{Bool, true, false, cond}
 use mathlib.Core.List.{List}
 use Prim.Native.Nat.{ℕ, zero, suc, _+_, _≤_, _<_, zero-le}
-use native.Mathlib.Nat.{le-refl, le-trans, le-antisymm}
+use native.Mathlib.Nat.{le-refl, le-trans, le-antisymm, not-suc-le-zero}
 use native.Mathlib.Omega.{arith}
 use lib.Dec.{eqb}
 use Rattle.sets.proofs.Tests.{bool-ext, cond-same}
 use Rattle.meaning.specs.Sheet.{nOf, parent, containsIn, contains, strictlyContains, meetingFrom}
 use Rattle.meaning.specs.Hierarchy.{completedIn, childIn}
 use Rattle.meaning.specs.Promises.{ContainmentEnough, MeetingEnough, CompletionEnough, ChildEnough}
-use Rattle.meaning.proofs.SheetLaws.{Sound, sound, parent-le}
-use Rattle.meaning.proofs.Containment.{parent-root, parent-n, parent-le-of-suc, within-of, of-within}
+use Rattle.meaning.proofs.SheetLaws.{Rooted, parent-le, parent-n, parent-le-of-suc, sound, tree}
+use Rattle.meaning.proofs.Containment.{within-of, of-within}
 use Rattle.meaning.proofs.Completion.{comp-of, of-comp}
 
 -- ---- containment and completion: the relation that each tests knows no fuel
 
+pub contains-same : (s : List ℕ) → Rooted s → (f g a m : ℕ) → m ≤ f → m ≤ g → m < nOf s → containsIn s f a m ≡ containsIn s g a m
+contains-same s ro f g a m h k l =
+    bool-ext (containsIn s f a m) (containsIn s g a m)
+    (λ e. of-within s ro g (within-of s ro f a m e) k l)
+    (λ e. of-within s ro f (within-of s ro g a m e) h l)
+
 pub containment-enough : ContainmentEnough
 unfolding ContainmentEnough contains
-containment-enough s h a m f l =
-    let sd = sound s h in
-    bool-ext (containsIn s (m + f) a m) (containsIn s m a m)
-    (λ k. of-within s sd m (within-of s sd (m + f) a m k) (le-refl m) l)
-    (λ k. of-within s sd (m + f) (within-of s sd m a m k) (omega arith) l)
+containment-enough s h a m f l = contains-same s (tree s (sound s h)) (m + f) m a m (omega arith) (le-refl m) l
 
 pub completion-enough : CompletionEnough
 unfolding CompletionEnough
@@ -34,50 +36,54 @@ completion-enough s h x m f l =
 
 -- ---- the meeting mode and the child: any two fuels that reach the root agree
 
-module _ (s : List ℕ) (sd : Sound s) where
-  meeting-root : (f b : ℕ) → meetingFrom s f 0 b ≡ 0
-  unfolding meetingFrom
-  meeting-root zero b = refl
-  meeting-root (suc f) b =
-      ap (cond (strictlyContains s 0 b) 0) (ap (λ (p : ℕ). meetingFrom s f p b) (parent-root s sd) ∙ meeting-root f b)
-      ∙ cond-same (strictlyContains s 0 b) 0
+-- c f m: the first of m, its parent, .. that passes the test, or where f steps end
+pub record Climbs (s : List ℕ) (test : ℕ → Bool) (c : ℕ → ℕ → ℕ) : Type 0 where
+  pub stop : (m : ℕ) → c 0 m ≡ m
+  pub step : (f m : ℕ) → c (suc f) m ≡ cond (test m) m (c f (parent s m))
 
-  meeting-same : (f g p b : ℕ) → p ≤ f → p ≤ g → p < nOf s → meetingFrom s f p b ≡ meetingFrom s g p b
-  unfolding meetingFrom
-  meeting-same zero g p b h k l =
-      let z : p ≡ 0 = le-antisymm h zero-le in
-      z ∙ sym (ap (λ (i : ℕ). meetingFrom s g i b) z ∙ meeting-root g b)
-  meeting-same (suc f) zero p b h k l =
-      let z : p ≡ 0 = le-antisymm k zero-le in
-      ap (λ (i : ℕ). meetingFrom s (suc f) i b) z ∙ meeting-root (suc f) b ∙ sym z
-  meeting-same (suc f) (suc g) p b h k l =
-      ap (cond (strictlyContains s p b) p)
-      (meeting-same f g (parent s p) b (parent-le-of-suc s sd f p h l) (parent-le-of-suc s sd g p k l) (parent-n s sd p l))
+pub meeting-climbs : (s : List ℕ) (b : ℕ) → Climbs s (λ p. strictlyContains s p b) (λ f p. meetingFrom s f p b)
+unfolding meetingFrom
+meeting-climbs s b = record { stop = λ p. refl; step = λ f p. refl }
 
-  child-root : (f p : ℕ) → childIn s f p 0 ≡ 0
-  unfolding childIn
-  child-root zero p = refl
-  child-root (suc f) p =
-      ap (cond (eqb (parent s 0) p) 0) (ap (childIn s f p) (parent-root s sd) ∙ child-root f p) ∙ cond-same (eqb (parent s 0) p) 0
+pub child-climbs : (s : List ℕ) (p : ℕ) → Climbs s (λ m. eqb (parent s m) p) (λ f m. childIn s f p m)
+unfolding childIn
+child-climbs s p = record { stop = λ m. refl; step = λ f m. refl }
 
-  child-same : (f g p m : ℕ) → m ≤ f → m ≤ g → m < nOf s → childIn s f p m ≡ childIn s g p m
-  unfolding childIn
-  child-same zero g p m h k l =
+module _ {s : List ℕ} (ro : Rooted s) {test : ℕ → Bool} {c : ℕ → ℕ → ℕ} (cl : Climbs s test c) where
+  climb-root : (f : ℕ) → c f 0 ≡ 0
+  climb-root zero = cl .stop 0
+  climb-root (suc f) = cl .step f 0 ∙ ap (cond (test 0) 0) (ap (c f) (ro .root) ∙ climb-root f) ∙ cond-same (test 0) 0
+
+  pub climb-same : (f g m : ℕ) → m ≤ f → m ≤ g → m < nOf s → c f m ≡ c g m
+  climb-same zero g m h k l =
       let z : m ≡ 0 = le-antisymm h zero-le in
-      z ∙ sym (ap (childIn s g p) z ∙ child-root g p)
-  child-same (suc f) zero p m h k l =
+      ap (c 0) z ∙ cl .stop 0 ∙ sym (ap (c g) z ∙ climb-root g)
+  climb-same (suc f) zero m h k l =
       let z : m ≡ 0 = le-antisymm k zero-le in
-      ap (childIn s (suc f) p) z ∙ child-root (suc f) p ∙ sym z
-  child-same (suc f) (suc g) p m h k l =
-      ap (cond (eqb (parent s m) p) m)
-      (child-same f g p (parent s m) (parent-le-of-suc s sd f m h l) (parent-le-of-suc s sd g m k l) (parent-n s sd m l))
+      ap (c (suc f)) z ∙ climb-root (suc f) ∙ sym (ap (c 0) z ∙ cl .stop 0)
+  climb-same (suc f) (suc g) m h k l =
+      cl .step f m
+      ∙ ap (cond (test m) m) (climb-same f g (parent s m) (parent-le-of-suc s ro f m h l) (parent-le-of-suc s ro g m k l) (parent-n s ro m l))
+      ∙ sym (cl .step g m)
+
+  -- it ends at a mode that passes; below one that does not it goes on from the parent
+  pub climb-found : (f m : ℕ) → test m ≡ true → c f m ≡ m
+  climb-found zero m e = cl .stop m
+  climb-found (suc f) m e = cl .step f m ∙ ap (λ (b : Bool). cond b m (c f (parent s m))) e
+
+  pub climb-step : (m : ℕ) → 0 < m → m < nOf s → test m ≡ false → c m m ≡ c (parent s m) (parent s m)
+  climb-step zero h l e = absurd (not-suc-le-zero h)
+  climb-step (suc m) h l e =
+      cl .step m (suc m)
+      ∙ ap (λ (b : Bool). cond b (suc m) (c m (parent s (suc m)))) e
+      ∙ climb-same m (parent s (suc m)) (parent s (suc m)) (parent-le-of-suc s ro m (suc m) (le-refl (suc m)) l) (le-refl (parent s (suc m))) (parent-n s ro (suc m) l)
 
 pub meeting-enough : MeetingEnough
 unfolding MeetingEnough
 meeting-enough s h a b f la lb =
-    let sd = sound s h in
-    meeting-same s sd (a + f) a (parent s a) b (le-trans (parent-le s sd a la) (omega arith)) (parent-le s sd a la) (parent-n s sd a la)
+    let ro = tree s (sound s h) in
+    climb-same ro (meeting-climbs s b) (a + f) a (parent s a) (le-trans (parent-le s ro a la) (omega arith)) (parent-le s ro a la) (parent-n s ro a la)
 
 pub child-enough : ChildEnough
 unfolding ChildEnough
-child-enough s h p m f l = child-same s (sound s h) (m + f) m p m (omega arith) (le-refl m) l
+child-enough s h p m f l = climb-same (tree s (sound s h)) (child-climbs s p) (m + f) m m (omega arith) (le-refl m) l

@@ -16,4 +16,5 @@ pub mod TableLaws
 pub mod Simulation
 pub mod TableSound
 pub mod ServedLaws
+pub mod Bounds
 pub mod Theorem

@@ -1,13 +1,13 @@
--- Laws of rows, places and lists of tests. Assumes nothing.
+-- Laws of rows, places, rising numbers and lists of tests. Assumes nothing.
 use mathlib.Core.Path.{_≡_, refl, sym, ap, ap₂, _∙_, subst}
 use mathlib.Core.Logic.{_⊎_, inl, inr}
-use mathlib.Core.Bool.{Bool, true, false, _||_, cond}
-use mathlib.Core.List.{List, [], _∷_}
-use Prim.Native.Nat.{ℕ, zero, suc, _+_, _≤_, _<_}
-use native.Mathlib.Nat.{le-refl, not-suc-le-zero, le-of-suc-le-suc, add-zero, zero-add}
+use mathlib.Core.Bool.{Bool, true, false, _&&_, _||_, cond, and-false}
+use mathlib.Core.List.{List, [], _∷_, _++_, flatten, append-assoc}
+use Prim.Native.Nat.{ℕ, zero, suc, _+_, _*_, _≤_, _<_}
+use native.Mathlib.Nat.{le-refl, le-trans, le-of-eq, not-suc-le-zero, le-of-suc-le-suc, eq-or-lt-of-le, add-zero, zero-add, mul-zero, mul-suc}
 use native.Mathlib.Omega.{arith}
 use lib.Dec.{T, eqb, eqb→eq, eqb-refl}
-use lib.ListN.{length, getD}
+use lib.ListN.{length, getD, length-append}
 use lib.Seq.{ext-getD}
 use Rattle.sets.proofs.Tests.{and-l, and-r, and-i, or-e, or-l, or-r}
 use Rattle.meaning.specs.Lists.{rowFrom, isIn, allOf, firstOf}
@@ -26,6 +26,20 @@ pub allOf-i : (bs : List Bool) → Holds bs → T (allOf bs)
 unfolding allOf
 allOf-i [] h = tt
 allOf-i (b ∷ bs) h = and-i b (allOf bs) (h .0) (allOf-i bs (h .1))
+
+-- one of them fails
+pub allOf-fails : (bs : List Bool) (i : ℕ) → getD bs i true ≡ false → allOf bs ≡ false
+unfolding allOf
+allOf-fails [] zero e = e
+allOf-fails [] (suc i) e = e
+allOf-fails (b ∷ bs) zero e = ap (λ (c : Bool). c && allOf bs) e
+allOf-fails (b ∷ bs) (suc i) e = ap (λ (c : Bool). b && c) (allOf-fails bs i e) ∙ and-false b
+
+-- a place of a list of tests that passes is one of its places
+pub getD-true-lt : (l : List Bool) (c : ℕ) → T (getD l c false) → c < length l
+getD-true-lt [] c h = absurd h
+getD-true-lt (b ∷ l) zero h = omega arith
+getD-true-lt (b ∷ l) (suc c) h = omega (arith, getD-true-lt l c h)
 
 -- the parts of a product in a row, for `allOf-i`
 infixr 3 _▹_
@@ -46,6 +60,15 @@ firstOf-off i (b ∷ bs) h = go b refl h (firstOf-off (suc i) bs)
     go true e k ih = absurd (omega arith)
     go false e k ih = (e, ih k)
 
+-- numbers that do not fall from one to the next
+pub steps-le : (e : ℕ → ℕ) (n : ℕ) → ((i : ℕ) → i < n → e i ≤ e (suc i)) → (i j : ℕ) → i ≤ j → j ≤ n → e i ≤ e j
+steps-le e n h i zero k l = le-of-eq (ap e (omega arith))
+steps-le e n h i (suc j) k l = go (eq-or-lt-of-le k) (λ m. steps-le e n h i j m (omega arith))
+  where
+    go : (i ≡ suc j) ⊎ (i < suc j) → (i ≤ j → e i ≤ e j) → e i ≤ e (suc j)
+    go (inl q) ih = le-of-eq (ap e q)
+    go (inr q) ih = le-trans (ih (le-of-suc-le-suc q)) (h j l)
+
 -- place j of a row
 pub rowFrom-at : {A : Type 0} (f : ℕ → A) (a : A) (i w j : ℕ) → j < w → getD (rowFrom i w f) j a ≡ f (i + j)
 unfolding rowFrom
@@ -62,6 +85,33 @@ pub rowFrom-length : {A : Type 0} (f : ℕ → A) (i w : ℕ) → length (rowFro
 unfolding rowFrom
 rowFrom-length f i zero = refl
 rowFrom-length f i (suc w) = ap suc (rowFrom-length f (suc i) w)
+
+pub rowFrom-append : {A : Type 0} (f : ℕ → A) (i m n : ℕ) → rowFrom i (m + n) f ≡ rowFrom i m f ++ rowFrom (i + m) n f
+unfolding rowFrom
+rowFrom-append f i zero n = rw (zero-add n, add-zero i)
+rowFrom-append {A} f i (suc m) n =
+    let e : suc m + n ≡ suc (m + n) = omega arith in
+    let k : suc i + m ≡ i + suc m = omega arith in
+    rw (e, ← k) (ap (λ (r : List A). f i ∷ r) (rowFrom-append f (suc i) m n))
+
+pub rowFrom-shift : {A : Type 0} (f : ℕ → A) (c i m : ℕ) → rowFrom (c + i) m f ≡ rowFrom i m (λ j. f (c + j))
+unfolding rowFrom
+rowFrom-shift f c i zero = refl
+rowFrom-shift {A} f c i (suc m) =
+    let e : suc (c + i) ≡ c + suc i = omega arith in
+    rw e (ap (λ (r : List A). f (c + i) ∷ r) (rowFrom-shift f c (suc i) m))
+
+-- rows in a row: two lists of them, and n of w words each
+pub flatten-append : (xs ys : List (List ℕ)) → flatten (xs ++ ys) ≡ flatten xs ++ flatten ys
+unfolding flatten
+flatten-append [] ys = refl
+flatten-append (x ∷ xs) ys = ap (λ (r : List ℕ). x ++ r) (flatten-append xs ys) ∙ sym (append-assoc x (flatten xs) (flatten ys))
+
+pub rows-width : (f : ℕ → List ℕ) (w : ℕ) → ((j : ℕ) → length (f j) ≡ w) → (n j : ℕ) → length (flatten (rowFrom j n f)) ≡ w * n
+unfolding flatten rowFrom
+rows-width f w h zero j = sym (mul-zero w)
+rows-width f w h (suc n) j =
+    omega (arith, length-append (f j) (flatten (rowFrom (suc j) n f)), h j, rows-width f w h n (suc j), mul-suc w n)
 
 -- a list is the row of its places
 pub rowFrom-getD : {A : Type 0} (l : List A) (a : A) → l ≡ rowFrom 0 (length l) (λ j. getD l j a)

@@ -1,26 +1,76 @@
--- What a sheet that is refused by none of 1 to 6 satisfies. Assumes nothing.
-use mathlib.Core.Path.{_≡_, refl, subst}
+-- What a sheet's mode rows say of parents, and what a sheet that is refused by none of 1 to 6 satisfies. Assumes nothing.
+use mathlib.Core.Path.{_≡_, ap, _∙_, subst}
 use mathlib.Core.Logic.{_⊎_, inl, inr}
-use mathlib.Core.Bool.{Bool, true, false, not, _&&_, cond}
+use mathlib.Core.Bool.{Bool, false, not}
 use mathlib.Core.List.{List, [], _∷_}
 use Prim.Native.Nat.{ℕ, zero, suc, _≤_, _<_, zero-le}
-use native.Mathlib.Nat.{le-trans, le-of-eq, lt-of-le-of-lt}
+use native.Mathlib.Nat.{le-trans, le-of-eq, le-of-lt, lt-of-le-of-lt, eq-zero-or-pos}
 use native.Mathlib.Omega.{arith}
 use lib.Dec.{T, eqb, ltb, eqb→eq, eqb-refl, ltb→lt, leb→le, T-not}
 use lib.Arith.{lt-of-le-ne}
 use lib.ListN.{length}
-use borrow.Author.Tests.{not-false}
+use borrow.Author.Tests.{not-false, eq-eqb, ne-eqb}
 use Rattle.sets.specs.Sets.{every}
 use Rattle.sets.proofs.Tests.{of-true, and-l, and-r, or-e}
 use Rattle.sets.proofs.Facts.{every-e}
-use Rattle.meaning.specs.Sheet.{nOf, kOf, tOf, kind, parent, source, endBefore, termCount, containsIn, contains, strictlyContains}
+use Rattle.meaning.specs.Sheet.{nOf, kOf, tOf, kind, parent, first, isChild, source, endBefore, termCount, containsIn, contains, strictlyContains}
 use Rattle.meaning.specs.Check.{headOk, modeOk, modesOk, pairOk, pairsOk, endOk, endsOk, termOk, termsOk, distinctOk, sheetRefusal}
 use Rattle.meaning.proofs.ListLaws.{allOf-e, firstOf-off}
+
+-- ---- the mode tree, by the mode rows: the root's parent is the root, every other mode's is lower
+
+pub record Rooted (s : List ℕ) : Type 0 where
+  pub root : parent s 0 ≡ 0
+  pub lower : (m : ℕ) → 0 < m → m < nOf s → parent s m < m
+
+pub rooted : (s : List ℕ) → 0 < nOf s → ((m : ℕ) → m < nOf s → T (modeOk s m)) → Rooted s
+unfolding modeOk
+rooted s p h =
+    record {
+      root = eqb→eq (parent s 0) 0 (allOf-e _ (h 0 p) .1 .0);
+      lower = λ m q l. ltb→lt (parent s m) m (and-l (ltb (parent s m) m) (not (eqb (kind s (parent s m)) 0)) (rw (ne-eqb m 0 (λ e. omega arith)) at (allOf-e _ (h m l) .1 .0)));
+    }
+
+module _ (s : List ℕ) (ro : Rooted s) where
+  pub parent-le : (m : ℕ) → m < nOf s → parent s m ≤ m
+  parent-le m l = go (eq-zero-or-pos m)
+    where
+      go : (m ≡ 0) ⊎ (0 < m) → parent s m ≤ m
+      go (inl e) = le-trans (le-of-eq (ap (parent s) e ∙ ro .root)) zero-le
+      go (inr p) = le-of-lt (ro .lower m p l)
+
+  pub parent-n : (m : ℕ) → m < nOf s → parent s m < nOf s
+  parent-n m l = lt-of-le-of-lt (parent-le m l) l
+
+  -- one step up, one step less to go
+  pub parent-le-of-suc : (f m : ℕ) → m ≤ suc f → m < nOf s → parent s m ≤ f
+  parent-le-of-suc f m h l = go (eq-zero-or-pos m)
+    where
+      go : (m ≡ 0) ⊎ (0 < m) → parent s m ≤ f
+      go (inl e) = le-trans (le-of-eq (ap (parent s) e ∙ ro .root)) zero-le
+      go (inr p) = omega (arith, ro .lower m p l)
+
+  -- a mode that contains m has no higher number
+  pub containsIn-le : (f a m : ℕ) → m < nOf s → T (containsIn s f a m) → a ≤ m
+  unfolding containsIn
+  containsIn-le zero a m l k = le-of-eq (eqb→eq a m k)
+  containsIn-le (suc f) a m l k = go (or-e (eqb a m) (containsIn s f a (parent s m)) k) (containsIn-le f a (parent s m) (parent-n m l))
+    where
+      go : T (eqb a m) ⊎ T (containsIn s f a (parent s m)) → (T (containsIn s f a (parent s m)) → a ≤ parent s m) → a ≤ m
+      go (inl e) ih = le-of-eq (eqb→eq a m e)
+      go (inr c) ih = le-trans (ih c) (parent-le m l)
+
+  pub strictly-lt : (a m : ℕ) → m < nOf s → T (strictlyContains s a m) → a < m
+  unfolding strictlyContains contains
+  strictly-lt a m l k =
+      let ne : a ≡ m → ⊥ = λ e. T-not (eqb a m) (and-l (not (eqb a m)) (contains s a m) k) (subst (λ (x : ℕ). T (eqb a x)) e (eqb-refl a)) in
+      lt-of-le-ne (containsIn-le m a m l (and-r (not (eqb a m)) (contains s a m) k)) ne
+
+-- ---- the sheet past 1 to 6
 
 not-off : (b : Bool) → not b ≡ false → T b
 not-off b e = of-true (not-false b e)
 
--- the sheet past 1 to 6
 pub record Sound (s : List ℕ) : Type 0 where
   pub head : T (headOk s)
   pub modes : (m : ℕ) → m < nOf s → T (modeOk s m)
@@ -61,30 +111,16 @@ module _ (s : List ℕ) (h : Sound s) where
   unfolding headOk
   t-le = leb→le (tOf s) 64 (allOf-e _ (h .head) .1 .1 .1 .1 .0)
 
-  -- a mode's parent has a lower number; the root's is the root
-  pub parent-le : (m : ℕ) → m < nOf s → parent s m ≤ m
+  -- the mode tree
+  pub tree : Rooted s
+  tree = rooted s n-pos (h .modes)
+
+  -- a serial mode's first mode is one of its children
+  pub first-child : (m : ℕ) → m < nOf s → kind s m ≡ 1 → (first s m < nOf s) × T (isChild s m (first s m))
   unfolding modeOk
-  parent-le m l = go (eqb m 0) refl (allOf-e _ (h .modes m l) .1 .0)
-    where
-      go : (b : Bool) → eqb m 0 ≡ b → T (cond b (eqb (parent s m) 0) (ltb (parent s m) m && not (eqb (kind s (parent s m)) 0))) → parent s m ≤ m
-      go true e k = le-trans (le-of-eq (eqb→eq (parent s m) 0 k)) zero-le
-      go false e k = omega (arith, ltb→lt (parent s m) m (and-l (ltb (parent s m) m) (not (eqb (kind s (parent s m)) 0)) k))
-
-  -- a mode that contains m has no higher number
-  pub containsIn-le : (f a m : ℕ) → m < nOf s → T (containsIn s f a m) → a ≤ m
-  unfolding containsIn
-  containsIn-le zero a m l k = le-of-eq (eqb→eq a m k)
-  containsIn-le (suc f) a m l k = go (or-e (eqb a m) (containsIn s f a (parent s m)) k) (containsIn-le f a (parent s m) (lt-of-le-of-lt (parent-le m l) l))
-    where
-      go : T (eqb a m) ⊎ T (containsIn s f a (parent s m)) → (T (containsIn s f a (parent s m)) → a ≤ parent s m) → a ≤ m
-      go (inl e) ih = le-of-eq (eqb→eq a m e)
-      go (inr c) ih = le-trans (ih c) (parent-le m l)
-
-  pub strictly-lt : (a m : ℕ) → m < nOf s → T (strictlyContains s a m) → a < m
-  unfolding strictlyContains contains
-  strictly-lt a m l k =
-      let ne : a ≡ m → ⊥ = λ e. T-not (eqb a m) (and-l (not (eqb a m)) (contains s a m) k) (subst (λ (x : ℕ). T (eqb a x)) e (eqb-refl a)) in
-      lt-of-le-ne (containsIn-le m a m l (and-r (not (eqb a m)) (contains s a m) k)) ne
+  first-child m l k =
+      let c = rw (eq-eqb (kind s m) 1 k) at (allOf-e _ (h .modes m l) .1 .1 .1 .0) in
+      (ltb→lt (first s m) (nOf s) (and-l (ltb (first s m) (nOf s)) (isChild s m (first s m)) c), and-r (ltb (first s m) (nOf s)) (isChild s m (first s m)) c)
 
   -- a transition's ends are modes
   pub source-lt : (t : ℕ) → t < tOf s → source s t < nOf s

@@ -10,7 +10,10 @@ use Rattle.meaning.proofs.TickInWordsLaws.{in-words}
 use Rattle.meaning.proofs.AnyOrder.{any-order}
 use Rattle.meaning.proofs.ServedLaws.{whole-list-from}
 
--- a table that compile made runs, from power-on and over any list of calls, as its sheet does
+-- A table that compile made runs, from power-on and over any list of calls, as its sheet does. The statement is about the definitions
+-- `compile` and `tableRun`. `compiler::compile` and `recorder::table_run::run` are proved equal to these two for all words, results
+-- and lent words alike, so it holds of every program that compiles a sheet, keeps as many words of the table slice as the length
+-- returned, and runs them from the fresh state on, passing the state that each call returns to the next.
 pub whole-list : WholeList
 whole-list = whole-list-from keeps-consistent
 

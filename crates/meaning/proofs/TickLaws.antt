@@ -19,7 +19,7 @@ use Rattle.meaning.specs.Hierarchy.{complete}
 use Rattle.meaning.specs.Reaction.{TickSets, isDelay, delay, isTimer, running, alternative, isDue, trigger, triggered, conflict, givesWay, eligible, ambiguous, restless, exiting, entering, afterRound}
 use Rattle.meaning.specs.Tick.{Tick, begin, chosen, roundsFrom, tick}
 use Rattle.meaning.specs.Promises.{TickRounds, RoundsEnough}
-use Rattle.meaning.proofs.SheetLaws.{Sound, strictly-lt, source-lt}
+use Rattle.meaning.proofs.SheetLaws.{strictly-lt, Sound, tree, source-lt}
 
 -- ---- whatever a round keeps holds at the end of the rounds
 
@@ -212,7 +212,7 @@ rank s t = source s t
 gives-way-falls : (s : List ℕ) → Sound s → (t u : ℕ) → t < tOf s → T (givesWay s t u) → rank s u < rank s t
 unfolding rank givesWay
 gives-way-falls s sd t u l h =
-    strictly-lt s sd (source s u) (source s t) (source-lt s sd t l) (and-r (conflict s t u) (strictlyContains s (source s u) (source s t)) h)
+    strictly-lt s (tree s sd) (source s u) (source s t) (source-lt s sd t l) (and-r (conflict s t u) (strictlyContains s (source s u) (source s t)) h)
 
 module _ (s : List ℕ) (sd : Sound s) (ts : ℕ) (below : (t : ℕ) → T (has ts t) → t < tOf s) where
   eligible-within : (f t : ℕ) → rank s t < f → T (has ts t) → (u : ℕ) × T (has (eligible s ts) u)

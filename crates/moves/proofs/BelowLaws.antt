@@ -6,21 +6,21 @@ use mathlib.Core.Bool.{Bool, true, false, not, _&&_, cond}
 use mathlib.Core.List.{List}
 use Prim.Native.Nat.{ℕ, zero, suc, _+_, _≤_, _<_}
 use native.Mathlib.Omega.{arith}
-use lib.Dec.{T, eqb, ltb, eqb→eq, leb→le, ltb→lt, T-not, not-T}
+use lib.Dec.{T, eqb, ltb, eqb→eq, leb→le, T-not, not-T}
 use borrow.Author.Tests.{eqb-true, eqb-false, eq-eqb, ne-eqb}
 use Rattle.sets.specs.Sets.{has, union, single, some}
 use Rattle.sets.proofs.Tests.{is-false, of-true, and-l, and-r, and-i, or-e, or-l, or-r, bool-ext}
 use Rattle.sets.proofs.Membership.{same-members}
-use Rattle.sets.proofs.Facts.{some-e, some-i}
+use Rattle.sets.proofs.Facts.{union-e, union-l, union-r, single-e, single-i, some-e, some-i}
 use Rattle.meaning.specs.Sheet.{nOf, kind, parent, first, isChild}
 use Rattle.meaning.specs.Check.{modeOk}
 use Rattle.meaning.specs.Hierarchy.{brings, complete}
 use Rattle.meaning.proofs.ListLaws.{allOf-e}
-use Rattle.meaning.proofs.SheetLaws.{Sound, n-pos}
-use Rattle.meaning.proofs.Containment.{Within, here, up, isChild-e, isChild-i, parent-lt, parent-n}
+use Rattle.meaning.proofs.SheetLaws.{parent-n, Sound, n-pos, tree, first-child}
+use Rattle.meaning.proofs.Containment.{Within, here, up, isChild-e, isChild-i}
 use Rattle.meaning.proofs.Completion.{Comp, base, down, complete-e, complete-i, Based}
 use Rattle.moves.specs.Below.{last, gather, kept, belowAt, below, branch}
-use Rattle.moves.proofs.Gather.{union-e, union-l, union-r, single-e, single-i, last-cases, last-hit, last-miss, last-none, gather-e, gather-i, gather-same, gather-hit, gather-miss, gather-none}
+use Rattle.moves.proofs.Gather.{last-cases, last-hit, last-miss, last-none, gather-e, gather-i, gather-same, gather-hit, gather-miss, gather-none}
 
 -- a mode's kind by the code's test
 pub serial-of : (k : ℕ) (t : Bool) → t ≡ eqb k 1 → t ≡ true → k ≡ 1
@@ -38,17 +38,10 @@ keptTo s x m c = last (λ i. isChild s m i && has x i) (first s m) c
 module _ (s : List ℕ) (sd : Sound s) where
   -- a child has a higher number than its parent
   pub child-above : (p c : ℕ) → c < nOf s → T (isChild s p c) → p < c
-  child-above p c l h = let r = isChild-e s p c h in omega (arith, r .1, parent-lt s sd c (r .0) l)
+  child-above p c l h = let r = isChild-e s p c h in omega (arith, r .1, tree s sd .lower c (r .0) l)
 
   pub no-low-child : (m i : ℕ) → m < nOf s → i < m + 1 → isChild s m i ≡ false
   no-low-child m i l h = is-false (isChild s m i) (λ c. omega (arith, child-above m i (omega arith) c))
-
-  -- a serial mode's first mode is one of its children
-  first-child : (m : ℕ) → m < nOf s → kind s m ≡ 1 → (first s m < nOf s) × T (isChild s m (first s m))
-  unfolding modeOk
-  first-child m l k =
-      let h = subst (λ (b : Bool). T (cond b (ltb (first s m) (nOf s) && isChild s m (first s m)) (eqb (first s m) 0))) (eq-eqb (kind s m) 1 k) (allOf-e _ (sd .modes m l) .1 .1 .1 .0) in
-      (ltb→lt (first s m) (nOf s) (and-l (ltb (first s m) (nOf s)) (isChild s m (first s m)) h), and-r (ltb (first s m) (nOf s)) (isChild s m (first s m)) h)
 
   -- a mode with a child is serial or parallel
   kind-of-parent : (p c : ℕ) → c < nOf s → T (isChild s p c) → (kind s p ≡ 1) ⊎ (kind s p ≡ 2)
@@ -59,7 +52,7 @@ module _ (s : List ℕ) (sd : Sound s) where
       r = isChild-e s p c h
 
       pn : p < nOf s
-      pn = subst (λ (i : ℕ). i < nOf s) (r .1) (parent-n s sd c l)
+      pn = subst (λ (i : ℕ). i < nOf s) (r .1) (parent-n s (tree s sd) c l)
 
       some-kind : kind s p ≡ 0 → ⊥
       some-kind e =
@@ -97,7 +90,7 @@ module _ (s : List ℕ) (sd : Sound s) where
         go : Kept m → Step m (kept s x m)
         go (inl f) = record { small = f .0; child = and-l (isChild s m (kept s x m)) (has x (kept s x m)) (f .1); only = λ _. refl }
         go (inr f) =
-            let r = first-child m l k in
+            let r = first-child s sd m l k in
             record { small = subst (λ (i : ℕ). i < nOf s) (sym (f .0)) (r .0); child = subst (λ (i : ℕ). T (isChild s m i)) (sym (f .0)) (r .1); only = λ _. refl }
 
     -- where the code goes from serial mode m
@@ -300,7 +293,7 @@ module _ (s : List ℕ) (sd : Sound s) where
 
       member-in : {m : ℕ} → Within s e m → m < nOf s → T (has x m) → T (has (branch s x e) m)
       member-in here l h = branch-top e
-      member-in (up {m} p w) l h = go (eqb m e) refl (λ g. member-in w (parent-n s sd m l) g)
+      member-in (up {m} p w) l h = go (eqb m e) refl (λ g. member-in w (parent-n s (tree s sd) m l) g)
         where
           go : (v : Bool) → eqb m e ≡ v → (T (has x (parent s m)) → T (has (branch s x e) (parent s m))) → T (has (branch s x e) m)
           go true q ih = subst (λ (i : ℕ). T (has (branch s x e) i)) (sym (eqb-true m e q)) (branch-top e)
@@ -308,7 +301,7 @@ module _ (s : List ℕ) (sd : Sound s) where
 
       comp-in : {m : ℕ} → Comp s x m → m < nOf s → T (has (branch s x e) m)
       comp-in (base {m} h) l = member-in (b .below m l h) l h
-      comp-in (down {m} p g c) l = grown (parent s m) m (brought (parent s m) m l (isChild-i s (parent s m) m p refl) g) (comp-in c (parent-n s sd m l))
+      comp-in (down {m} p g c) l = grown (parent s m) m (brought (parent s m) m l (isChild-i s (parent s m) m p refl) g) (comp-in c (parent-n s (tree s sd) m l))
 
       pub complete-branch : complete s x ≡ branch s x e
       complete-branch =

@@ -1,34 +1,18 @@
 -- The highest number below k that passes a test, and the union of sets over the numbers below k that pass one: what each holds,
 -- and one turn of the loop that makes it. Assumes nothing.
-use mathlib.Core.Path.{_≡_, refl, sym, ap₂, subst}
+use mathlib.Core.Path.{_≡_, refl, ap₂, subst}
 use mathlib.Core.Logic.{_⊎_, inl, inr}
 use mathlib.Core.Bool.{Bool, true, false, cond}
 use Prim.Native.Nat.{ℕ, zero, suc, _+_, _<_}
 use native.Mathlib.Nat.{le-refl, not-suc-le-zero, le-of-suc-le-suc, eq-or-lt-of-le}
 use native.Mathlib.Numerals.{add-one}
 use native.Mathlib.Omega.{arith}
-use lib.Dec.{T, eqb→eq, eqb-refl}
-use Rattle.sets.specs.Sets.{has, union, single}
-use Rattle.sets.proofs.Tests.{of-true, of-false, or-e, or-l, or-r}
-use Rattle.sets.proofs.Membership.{has-none, has-union, has-single}
+use lib.Dec.{T}
+use Rattle.sets.specs.Sets.{has, union}
+use Rattle.sets.proofs.Tests.{of-true, of-false}
+use Rattle.sets.proofs.Membership.{has-none}
+use Rattle.sets.proofs.Facts.{union-e, union-l, union-r}
 use Rattle.moves.specs.Below.{last, gather}
-
--- ---- sets in general: the members of a union, and of one mode alone
-
-pub union-e : (a b i : ℕ) → T (has (union a b) i) → T (has a i) ⊎ T (has b i)
-union-e a b i h = or-e (has a i) (has b i) (subst T (has-union a b i) h)
-
-pub union-l : (a b i : ℕ) → T (has a i) → T (has (union a b) i)
-union-l a b i h = subst T (sym (has-union a b i)) (or-l (has a i) (has b i) h)
-
-pub union-r : (a b i : ℕ) → T (has b i) → T (has (union a b) i)
-union-r a b i h = subst T (sym (has-union a b i)) (or-r (has a i) (has b i) h)
-
-pub single-e : (m i : ℕ) → T (has (single m) i) → i ≡ m
-single-e m i h = eqb→eq i m (subst T (has-single m i) h)
-
-pub single-i : (m : ℕ) → T (has (single m) m)
-single-i m = subst T (sym (has-single m m)) (eqb-refl m)
 
 -- ---- the highest number below k that passes p, or d
 

@@ -16,8 +16,8 @@ use Rattle.sets.proofs.Tests.{and-l, and-r, and-i, or-e, or-l, or-r, bool-ext}
 use Rattle.sets.proofs.Membership.{has-union, has-single, has-setOf, single-lt, setOf-lt, setOf-ext, setOf-same, union-lt}
 use Rattle.sets.proofs.Facts.{some-e, some-i}
 use Rattle.meaning.specs.Sheet.{nOf, parent, isChild, contains}
-use Rattle.meaning.proofs.SheetLaws.{Sound, n-le}
-use Rattle.meaning.proofs.Containment.{Within, here, up, isChild-e, isChild-i, parent-n, within-le, within-trans, contains-e, contains-i, child-holding}
+use Rattle.meaning.proofs.SheetLaws.{parent-n, Sound, n-le, tree}
+use Rattle.meaning.proofs.Containment.{Within, here, up, isChild-e, isChild-i, within-le, within-trans, contains-e, contains-i, child-holding}
 use Rattle.moves.specs.Inside.{Insides}
 use Rattle.moves.proofs.BelowLaws.{child-above}
 
@@ -77,21 +77,21 @@ module _ (s : List ℕ) (sd : Sound s) where
 
   -- where all children of p are added, word p is whole
   whole-test : (m p y : ℕ) → m ≤ p + 1 → y < nOf s → addedFrom s m p y ≡ contains s p y
-  whole-test m p y h l = bool-ext (addedFrom s m p y) (contains s p y) (λ k. holds (added-e s m p y k)) (λ k. shown (eqb p y) refl (contains-e s sd p y k))
+  whole-test m p y h l = bool-ext (addedFrom s m p y) (contains s p y) (λ k. holds (added-e s m p y k)) (λ k. shown (eqb p y) refl (contains-e s (tree s sd) p y k))
     where
       holds : Held s m p y → T (contains s p y)
-      holds (inl e) = contains-i s sd y (subst (λ (i : ℕ). Within s i y) e here) l
+      holds (inl e) = contains-i s (tree s sd) y (subst (λ (i : ℕ). Within s i y) e here) l
       holds (inr r) =
           let q = isChild-e s p (r .0) (r .2) in
-          contains-i s sd y (within-trans s sd (up (q .0) (subst (λ (i : ℕ). Within s i (parent s (r .0))) (q .1) here)) (contains-e s sd (r .0) y (r .4))) l
+          contains-i s (tree s sd) y (within-trans (up (q .0) (subst (λ (i : ℕ). Within s i (parent s (r .0))) (q .1) here)) (contains-e s (tree s sd) (r .0) y (r .4))) l
 
       shown : (b : Bool) → eqb p y ≡ b → Within s p y → T (addedFrom s m p y)
       shown true e w = subst (λ (i : ℕ). T (addedFrom s m p i)) (eqb-true p y e) (added-itself s m p)
       shown false e w =
-          let r = child-holding s sd p y l w (eqb-false p y e) in
-          let cn = lt-of-le-of-lt (within-le s sd (r .holds) l) l in
+          let r = child-holding s (tree s sd) p y l w (eqb-false p y e) in
+          let cn = lt-of-le-of-lt (within-le s (tree s sd) (r .holds) l) l in
           let ch = isChild-i s p _ (r .pos) (r .par) in
-          added-child s m p y _ cn ch (omega (arith, child-above s sd p _ cn ch)) (contains-i s sd y (r .holds) l)
+          added-child s m p y _ cn ch (omega (arith, child-above s sd p _ cn ch)) (contains-i s (tree s sd) y (r .holds) l)
 
   whole-word : (m p : ℕ) → m ≤ p + 1 → setOf (nOf s) (addedFrom s m p) ≡ setOf (nOf s) (contains s p)
   whole-word m p h = setOf-same (nOf s) (addedFrom s m p) (contains s p) (λ y l. whole-test m p y h l)
@@ -154,7 +154,7 @@ module _ (s : List ℕ) (sd : Sound s) where
       w = union (getD inside p 0) (getD inside m 0)
 
       w-is : w ≡ setOf (nOf s) (addedFrom s m p)
-      w-is = ap₂ union (a p (rw e (parent-n s sd m l))) (a m l ∙ whole-word (m + 1) m (omega arith)) ∙ rw e (parent-word m pos l)
+      w-is = ap₂ union (a p (rw e (parent-n s (tree s sd) m l))) (a m l ∙ whole-word (m + 1) m (omega arith)) ∙ rw e (parent-word m pos l)
 
       go : (b : Bool) → eqb q p ≡ b → getD (set inside p w) q 0 ≡ setOf (nOf s) (addedFrom s m q)
       go true b =

@@ -1,12 +1,25 @@
 // The operations under C names, for a program in another language. A slice passes as a pointer and a length. Each answers the
-// refusal's number, 0 for none, and puts its counts into `info`; with fewer words in `info` than asked for, it does nothing.
+// refusal's number, 0 for none, and puts its counts into `info`; a state is 65 lent words, the mode set or block and the readings.
+// With fewer words in `info` or in the state than asked for, a call does nothing and answers 4294967295.
+ghost use mathlib.Core.Path.{_≡_};
+ghost use mathlib.Core.Bool.{cond};
+ghost use mathlib.Core.List.{_∷_};
+ghost use Prim.Native.Nat.{_≤_};
+ghost use lib.ListN.{length, take, drop};
+ghost use Rattle.meaning.specs.Lists.{overwritten};
+ghost use Rattle.meaning.specs.Check.{sheetRefusal};
+ghost use Rattle.meaning.specs.Table.{tableOk};
+ghost use Rattle.native.specs.Calls.{compileCall, sheetCall, tableCall};
+use clock::state::State;
 use meaning::refusal::number;
 
-// What is answered where `info` is too short.
+// What is answered where too few words are lent.
 const NOTHING_DONE: u32 = 4294967295;
 
 #[no_mangle]
-pub extern "C" fn modechart_check(sheet: &[u32]) -> u32 {
+pub extern "C" fn modechart_check(sheet: &[u32]) -> u32
+    ensures { λ r. ⌜ r ≡ sheetRefusal (now (sheet .entry)) ⌝ }
+{
     number(sheet::check(sheet))
 }
 
@@ -17,7 +30,9 @@ pub extern "C" fn modechart_compile(
     table: &mut [u32],
     work: &mut [u32],
     info: &mut [u64],
-) -> u32 {
+) -> u32
+    ensures { λ r. ⌜ record { answer = r; table = now (table .exit); work = now (work .exit); info = now (info .exit) } ≡ compileCall (now (sheet .entry)) (now (table .entry)) (now (work .entry)) (now (info .entry)) ⌝ }
+{
     if info.len() < 2 {
         return NOTHING_DONE;
     }
@@ -25,5 +40,97 @@ pub extern "C" fn modechart_compile(
     let why = c.refusal;
     info[0] = c.f as u64;
     info[1] = c.table_length as u64;
+    number(why)
+}
+
+#[no_mangle]
+pub extern "C" fn modechart_check_table(table: &[u32]) -> u32
+    ensures { λ r. ⌜ r ≡ cond (tableOk (now (table .entry))) 0 15 ⌝ }
+{
+    if layout::table_ok(table) {
+        return 0;
+    }
+    15
+}
+
+// The readings that 65 words hold after the mode set or block.
+fn readings_in(state: &[u32]) -> [u32; 64]
+    requires { ⌜ 65 ≤ length (now state) ⌝ }
+    ensures { λ r. ⌜ r ≡ take 64 (drop 1 (now (state .entry))) ⌝ }
+{
+    let mut r = [0u32; 64];
+    let mut t = 0;
+    while t < 64 {
+        r[t] = state[1 + t];
+        t += 1;
+    }
+    r
+}
+
+// A state into 65 lent words.
+fn put_state(words: &mut [u32], state: State)
+    requires { ⌜ 65 ≤ length (now words) ⌝ }
+    ensures { λ _. ⌜ now (words .exit) ≡ overwritten (state .at ∷ state .readings) (now (words .entry)) ⌝ }
+{
+    let readings = state.readings;
+    words[0] = state.at;
+    let mut t = 0;
+    while t < 64 {
+        words[1 + t] = readings[t];
+        t += 1;
+    }
+}
+
+// info: ticks done, the total of rounds (whole times 2^32, and the rest).
+#[no_mangle]
+pub extern "C" fn modechart_sheet_run(
+    sheet: &[u32],
+    state: &mut [u32],
+    inputs: &[u32],
+    out: &mut [u32],
+    info: &mut [u64],
+) -> u32
+    ensures { λ r. ⌜ record { answer = r; state = now (state .exit); out = now (out .exit); info = now (info .exit) } ≡ sheetCall (now (sheet .entry)) (now (state .entry)) (now (inputs .entry)) (now (out .entry)) (now (info .entry)) ⌝ }
+{
+    if info.len() < 3 || state.len() < 65 {
+        return NOTHING_DONE;
+    }
+    let readings = readings_in(state);
+    let before = State {
+        at: state[0],
+        readings,
+    };
+    let ran = simulator::sheet_run::run(sheet, before, inputs, out);
+    let why = ran.refusal;
+    info[0] = ran.done.0 as u64;
+    info[1] = ran.rounds.0;
+    info[2] = ran.rounds.1;
+    put_state(state, ran.state);
+    number(why)
+}
+
+// info: ticks done.
+#[no_mangle]
+pub extern "C" fn modechart_table_run(
+    table: &[u32],
+    state: &mut [u32],
+    inputs: &[u32],
+    out: &mut [u32],
+    info: &mut [u64],
+) -> u32
+    ensures { λ r. ⌜ record { answer = r; state = now (state .exit); out = now (out .exit); info = now (info .exit) } ≡ tableCall (now (table .entry)) (now (state .entry)) (now (inputs .entry)) (now (out .entry)) (now (info .entry)) ⌝ }
+{
+    if info.len() < 1 || state.len() < 65 {
+        return NOTHING_DONE;
+    }
+    let readings = readings_in(state);
+    let before = State {
+        at: state[0],
+        readings,
+    };
+    let ran = recorder::table_run::run(table, before, inputs, out);
+    let why = ran.refusal;
+    info[0] = ran.done.0 as u64;
+    put_state(state, ran.state);
     number(why)
 }

@@ -1,5 +1,5 @@
 -- Conflict and giving way, by the words for what is within each mode. Assumes nothing.
-use mathlib.Core.Path.{_≡_, sym, ap, ap₂, _∙_, subst}
+use mathlib.Core.Path.{_≡_, ap, ap₂, _∙_, subst}
 use mathlib.Core.Logic.{inr}
 use mathlib.Core.Bool.{Bool, not, _&&_, _||_, or-comm}
 use mathlib.Core.List.{List}
@@ -10,26 +10,20 @@ use lib.Dec.{T, eqb, eqb→eq, T-not, not-T}
 use lib.ListN.{length, getD}
 use borrow.Author.Tests.{eq-eqb}
 use Rattle.sets.specs.Sets.{has, meet, minus, single, setOf}
-use Rattle.sets.proofs.Tests.{of-true, and-l, and-r, and-i, bool-ext}
+use Rattle.sets.proofs.Tests.{of-true, and-l, and-r, and-i, bool-ext, eqb-sym}
 use Rattle.sets.proofs.Membership.{has-meet, has-minus, has-single, has-setOf, setOf-ext, meet-le}
 use Rattle.rows.specs.Over.{over}
 use Rattle.meaning.specs.Lists.{rowFrom}
 use Rattle.meaning.specs.Sheet.{nOf, tOf, source, contains, strictlyContains, meeting}
 use Rattle.meaning.specs.Check.{sheetRefusal}
 use Rattle.meaning.specs.Reaction.{conflict, givesWay}
-use Rattle.meaning.proofs.SheetLaws.{sound, n-le, t-le, source-lt}
-use Rattle.meaning.proofs.Containment.{ends, parent-n, within-le}
+use Rattle.meaning.proofs.SheetLaws.{parent-n, sound, n-le, t-le, tree, source-lt}
+use Rattle.meaning.proofs.Containment.{ends, within-le}
 use Rattle.moves.specs.Inside.{Insides}
 use Rattle.reaction.specs.Plan.{sourcesIn, conflictsOf, yieldersOf}
 use Rattle.reaction.proofs.PlanLaws.{sourcesIn-lt, has-sourcesIn}
 use Rattle.planner.specs.Parts.{Part, fromOf, Meetings}
 use Rattle.planner.proofs.PartLaws.{part-out, part-beside, front-in}
-
--- ---- general
-
-eqb-sym : (a b : ℕ) → eqb a b ≡ eqb b a
-eqb-sym a b =
-    bool-ext (eqb a b) (eqb b a) (λ k. of-true (eq-eqb b a (sym (eqb→eq a b k)))) (λ k. of-true (eq-eqb a b (sym (eqb→eq b a k))))
 
 -- ---- conflict and giving way
 
@@ -51,7 +45,7 @@ module _ (s : List ℕ) (h : sheetRefusal s ≡ 0) where
   meeting-lt t l =
       let sd = sound s h in
       let e = ends s sd t l in
-      subst (λ (m : ℕ). m < nOf s) (e .left .par) (parent-n s sd _ (lt-of-le-of-lt (within-le s sd (e .left .holds) (e .source-n)) (e .source-n)))
+      subst (λ (m : ℕ). m < nOf s) (e .left .par) (parent-n s (tree s sd) _ (lt-of-le-of-lt (within-le s (tree s sd) (e .left .holds) (e .source-n)) (e .source-n)))
 
   pub meetings-done : (l r : List ℕ) (t : ℕ) → 64 ≤ length l → t ≡ tOf s → r ≡ over l 0 (rowFrom 0 t (meeting s)) → Meetings s r
   unfolding Meetings

@@ -1,5 +1,4 @@
 pub mod PartLaws
-pub mod SetLoop
 pub mod SourceLaws
 pub mod ConflictLaws
 pub mod ClassLaws

@@ -123,6 +123,40 @@ module _ (l : List ℕ) (at : ℕ) (f : ℕ → ℕ) where
   pub part-width : {t w : ℕ} → t ≡ w → over l at (rowFrom 0 t f) ≡ over l at (rowFrom 0 w f)
   part-width e = rw e
 
+-- a word stored beside a part, and two parts laid in one loop: one turn
+set-beside : (l : List ℕ) (at w : ℕ) (f : ℕ → ℕ) → at + w ≤ length l → (i v : ℕ) → i < length l → (at ≤ i → i < at + w → ⊥)
+    → set (over l at (rowFrom 0 w f)) i v ≡ over (set l i v) at (rowFrom 0 w f)
+set-beside l at w f h i v b k =
+    part-is (set l i v) at w f (rw (length-set l i v) h) (set m i v) (length-set m i v ∙ long ∙ sym (length-set l i v))
+    (λ t a. getD-set-other m i (at + t) v 0 (λ e. k (omega arith) (omega arith)) ∙ part-in l at w f h t a)
+    (λ j a. beside j a (ℕ-discrete j i))
+  where
+    m : List ℕ
+    m = over l at (rowFrom 0 w f)
+
+    long : length m ≡ length l
+    long = part-length l at w f h
+
+    beside : (j : ℕ) → (at ≤ j → j < at + w → ⊥) → Dec (j ≡ i) → getD (set m i v) j 0 ≡ getD (set l i v) j 0
+    beside j a (yes e) = rw e (getD-set-same m i v 0 (omega (arith, long)) ∙ sym (getD-set-same l i v 0 b))
+    beside j a (no e) = getD-set-other m i j v 0 e ∙ part-out l at w f h j a ∙ sym (getD-set-other l i j v 0 e)
+
+pub parts-turn : (l : List ℕ) (at bt : ℕ) (f g : ℕ → ℕ) (t : ℕ) {m : List ℕ} {x y : ℕ} → at + t < bt → bt + t < length l
+    → m ≡ over (over l at (rowFrom 0 t f)) bt (rowFrom 0 t g) → x ≡ f t → y ≡ g t
+    → set (set m (at + t) x) (bt + t) y ≡ over (over l at (rowFrom 0 (t + 1) f)) bt (rowFrom 0 (t + 1) g)
+parts-turn l at bt f g t {m} {x} {y} a b e p q =
+    let n = over l at (rowFrom 0 t f) in
+    let long : length n ≡ length l = part-length l at t f (omega arith) in
+    let first : set m (at + t) x ≡ over (over l at (rowFrom 0 (t + 1) f)) bt (rowFrom 0 t g) =
+    ap (λ (k : List ℕ). set k (at + t) x) e
+    ∙ set-beside n bt t g (omega arith) (at + t) x (omega arith) (λ u v. omega arith)
+    ∙ ap (λ (k : List ℕ). over k bt (rowFrom 0 t g)) (part-turn l at f t (omega arith) refl p) in
+    part-turn (over l at (rowFrom 0 (t + 1) f)) bt g t (omega (arith, part-length l at (t + 1) f (omega arith))) first q
+
+pub parts-width : (l : List ℕ) (at bt : ℕ) (f g : ℕ → ℕ) {t w : ℕ} → t ≡ w
+    → over (over l at (rowFrom 0 t f)) bt (rowFrom 0 t g) ≡ over (over l at (rowFrom 0 w f)) bt (rowFrom 0 w g)
+parts-width l at bt f g e = rw e
+
 -- the same for a row at the front of a list
 pub front-turn : (l : List ℕ) (f : ℕ → ℕ) (t : ℕ) {m : List ℕ} {r : ℕ} → t < length l → m ≡ over l 0 (rowFrom 0 t f) → r ≡ f t
     → set m t r ≡ over l 0 (rowFrom 0 (t + 1) f)

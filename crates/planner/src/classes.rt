@@ -51,36 +51,26 @@ fn is_sure(sheet: &[u32], t: usize) -> bool
     events_only(sheet, t)
 }
 
-pub fn timers(sheet: &[u32]) -> u64
-    requires { ⌜ sheetRefusal (now sheet) ≡ 0 ⌝ }
-    ensures { λ r. ⌜ r ≡ timers (now (sheet .entry)) ⌝ }
-{
-    let count = transition_count(sheet);
-    let mut r = 0u64;
-    let mut t = 0;
-    while t < count {
-        if is_timer(sheet, t) {
-            r |= transitions::single(t);
-        }
-        t += 1;
-    }
-    r
+// The timers, and the transitions that an input set can trigger by itself.
+pub struct Classed {
+    pub timing: u64,
+    pub certain: u64,
 }
 
-pub fn sure(sheet: &[u32]) -> u64
+pub fn classes_of(sheet: &[u32]) -> Classed
     requires { ⌜ sheetRefusal (now sheet) ≡ 0 ⌝ }
-    ensures { λ r. ⌜ r ≡ sure (now (sheet .entry)) ⌝ }
+    ensures { λ r. ⌜ (r .timing ≡ timers (now (sheet .entry))) × (r .certain ≡ sure (now (sheet .entry))) ⌝ }
 {
     let count = transition_count(sheet);
-    let mut r = 0u64;
+    let mut timing = 0u64;
+    let mut certain = 0u64;
     let mut t = 0;
     while t < count {
-        if is_sure(sheet, t) {
-            r |= transitions::single(t);
-        }
+        timing |= transitions::single_if(is_timer(sheet, t), t);
+        certain |= transitions::single_if(is_sure(sheet, t), t);
         t += 1;
     }
-    r
+    Classed { timing, certain }
 }
 
 // All transitions below a count.

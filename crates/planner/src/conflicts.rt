@@ -13,10 +13,10 @@ ghost use Rattle.meaning.specs.Reaction.{conflict};
 ghost use Rattle.moves.specs.Inside.{Insides};
 ghost use Rattle.reaction.specs.Plan.{conflictsOf, yieldersOf};
 ghost use Rattle.planner.specs.Parts.{Part, fromOf, Meetings};
-use super::sources::sources_in;
 use reaction::plan::CONFLICTS;
 use reaction::plan::Plan;
 use reaction::plan::YIELDERS;
+use reaction::plan::from_set;
 use sets::modes;
 use sets::transitions;
 use sheet::hierarchy::meeting;
@@ -95,7 +95,7 @@ pub fn put_yielders(sheet: &[u32], inside: &[u32; 32], plan: &mut Plan)
     while t < count {
         let a = source(sheet, t);
         let within = modes::minus(inside[a], modes::single(a));
-        plan[YIELDERS + t] = sources_in(sheet, plan, within) & plan[CONFLICTS + t];
+        plan[YIELDERS + t] = from_set(sheet, plan, within) & plan[CONFLICTS + t];
         t += 1;
     }
 }

@@ -14,27 +14,15 @@ use reaction::plan::EXITS;
 use reaction::plan::Plan;
 use sheet::words::transition_count;
 
-// EXITS.
-pub fn put_exits(sheet: &[u32], inside: &[u32; 32], plan: &mut Plan)
+// EXITS and ENTERS.
+pub fn put_ends(sheet: &[u32], inside: &[u32; 32], plan: &mut Plan)
     requires { ⌜ (sheetRefusal (now sheet) ≡ 0) × (length (now plan) ≡ 547) × Insides (now sheet) (now inside) ⌝ }
-    ensures { λ _. ⌜ now (plan .exit) ≡ over (now (plan .entry)) 0 (rowFrom 0 (tOf (now (sheet .entry))) (exits (now (sheet .entry)))) ⌝ }
+    ensures { λ _. ⌜ now (plan .exit) ≡ over (over (now (plan .entry)) 0 (rowFrom 0 (tOf (now (sheet .entry))) (exits (now (sheet .entry))))) 64 (rowFrom 0 (tOf (now (sheet .entry))) (enters (now (sheet .entry)))) ⌝ }
 {
     let count = transition_count(sheet);
     let mut t = 0;
     while t < count {
         plan[EXITS + t] = exited_by(sheet, inside, t) as u64;
-        t += 1;
-    }
-}
-
-// ENTERS.
-pub fn put_enters(sheet: &[u32], plan: &mut Plan)
-    requires { ⌜ (sheetRefusal (now sheet) ≡ 0) × (length (now plan) ≡ 547) ⌝ }
-    ensures { λ _. ⌜ now (plan .exit) ≡ over (now (plan .entry)) 64 (rowFrom 0 (tOf (now (sheet .entry))) (enters (now (sheet .entry)))) ⌝ }
-{
-    let count = transition_count(sheet);
-    let mut t = 0;
-    while t < count {
         plan[ENTERS + t] = entered_by(sheet, t) as u64;
         t += 1;
     }

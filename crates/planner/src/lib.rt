@@ -27,12 +27,12 @@ pub fn planned(sheet: &[u32]) -> Plan
     ensures { λ r. ⌜ Planned (now (sheet .entry)) r ⌝ }
 {
     let inside = insides(sheet);
-    let timing = classes::timers(sheet);
-    let certain = classes::sure(sheet);
+    let classed = classes::classes_of(sheet);
+    let timing = classed.timing;
+    let certain = classed.certain;
     let mut plan = [0u64; SIZE];
     sources::put_from(sheet, &mut plan);
-    ends::put_exits(sheet, &inside, &mut plan);
-    ends::put_enters(sheet, &mut plan);
+    ends::put_ends(sheet, &inside, &mut plan);
     sources::put_changes(sheet, &mut plan, EXITS, LOSES);
     sources::put_changes(sheet, &mut plan, ENTERS, GAINS);
     conflicts::put_conflicts(sheet, &inside, &mut plan);

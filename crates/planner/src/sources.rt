@@ -10,8 +10,8 @@ ghost use Rattle.reaction.specs.Plan.{sourcesIn};
 ghost use Rattle.planner.specs.Parts.{Part, fromOf};
 use reaction::plan::FROM;
 use reaction::plan::Plan;
+use reaction::plan::from_set;
 use reaction::plan::mode_set;
-use sets::modes;
 use sets::transitions;
 use sheet::words::source;
 use sheet::words::transition_count;
@@ -30,20 +30,6 @@ pub fn put_from(sheet: &[u32], plan: &mut Plan)
     }
 }
 
-// The transitions whose source is in a mode set, by FROM.
-pub fn sources_in(sheet: &[u32], plan: &Plan, set: u32) -> u64
-    requires { ⌜ Part (now plan) 512 32 (fromOf (now sheet)) ⌝ }
-    ensures { λ r. ⌜ r ≡ sourcesIn (now (sheet .entry)) set ⌝ }
-{
-    let mut r = 0u64;
-    let mut rest = set;
-    while rest != 0 {
-        r |= plan[FROM + modes::lowest(rest)];
-        rest = modes::without_lowest(rest);
-    }
-    r
-}
-
 // LOSES and GAINS, at a place: the transitions whose source is in the mode set that another part, before it, has for t.
 pub fn put_changes(sheet: &[u32], plan: &mut Plan, sets: usize, at: usize)
     requires { ⌜ (sheetRefusal (now sheet) ≡ 0) × (length (now plan) ≡ 547) × Part (now plan) 512 32 (fromOf (now sheet)) × (sets + 64 ≤ at) × (at + 64 ≤ 512) ⌝ }
@@ -53,7 +39,7 @@ pub fn put_changes(sheet: &[u32], plan: &mut Plan, sets: usize, at: usize)
     let mut t = 0;
     while t < count {
         let set = mode_set(plan, sets + t);
-        plan[at + t] = sources_in(sheet, plan, set);
+        plan[at + t] = from_set(sheet, plan, set);
         t += 1;
     }
 }

@@ -1,7 +1,7 @@
 -- A round by the words of the plan is the round of the meaning, and the two derived sets stay right. Assumes nothing.
 use mathlib.Core.Path.{_≡_, refl, sym, ap, ap₂, _∙_, subst}
 use mathlib.Core.Bool.{Bool, true, false, not, _&&_, _||_, cond, and-true}
-use mathlib.Core.List.{List, [], _∷_}
+use mathlib.Core.List.{List}
 use Prim.Native.Nat.{ℕ, suc, _+_, _-_, _%_, _^_, _≤_, _<_}
 use native.Mathlib.Nat.{sub-zero, lt-of-lt-of-le, lt-of-le-of-lt, mod-eq-of-lt}
 use native.Mathlib.Numerals.{add-one}
@@ -12,10 +12,11 @@ use lib.ListN.{getD}
 use borrow.Author.Tests.{eq-eqb, ne-eqb}
 use Rattle.sets.specs.Sets.{has, union, meet, minus, meets, setOf, those, members, some, someIn}
 use Rattle.sets.proofs.Tests.{and-l, and-r, and-i, bool-ext}
-use Rattle.sets.proofs.Membership.{has-none, ext, same-members, has-union, has-meet, has-minus, has-setOf, setOf-lt, setOf-ext, setOf-same, union-lt, minus-le, has-those, those-lt}
-use Rattle.sets.proofs.Facts.{has-lt, setOf-e, setOf-i, those-e, those-i, some-e, some-i, someIn-e, someIn-i}
-use Rattle.sets.proofs.Members.{fold}
-use Rattle.sets.proofs.Quantifiers.{some-same, meets-some, has-union-over}
+use Rattle.sets.proofs.Membership.{has-none, ext, same-members, has-union, has-meet, has-minus, minus-meet, has-setOf, setOf-lt, setOf-ext, setOf-same, union-lt, minus-le, has-those, those-lt}
+use Rattle.sets.proofs.Facts.{setOf-e, setOf-i, those-e, those-i, some-e, some-i, someIn-e, someIn-i}
+use Rattle.sets.proofs.Members.{fold, fold-part}
+use Rattle.sets.proofs.Quantifiers.{someIn-same, meets-some}
+use Rattle.sets.proofs.Widths.{has-over, union-over}
 use Rattle.meaning.specs.Sheet.{nOf, tOf, source}
 use Rattle.meaning.specs.Refusal.{numberOf}
 use Rattle.meaning.specs.declared.refusal.Refusal.{Refusal}
@@ -30,58 +31,6 @@ use Rattle.reaction.specs.Rounds.{setsOf, tickOf, Derived, exitsOf, Move
 use Rattle.reaction.specs.declared.tick.Sets.{Sets}
 use Rattle.reaction.specs.declared.tick.Ticked.{Ticked}
 use Rattle.reaction.specs.declared.tick.Moves.{Moves}
-
--- ---- general laws of sets and folds
-
--- a set of both widths has the same members below either
-someIn-width : (v w a : ℕ) (p : ℕ → Bool) → a < 2 ^ v → a < 2 ^ w → someIn v a p ≡ someIn w a p
-someIn-width v w a p h k = bool-ext (someIn v a p) (someIn w a p) (wider v w k) (wider w v h)
-  where
-    wider : (x y : ℕ) → a < 2 ^ y → T (someIn x a p) → T (someIn y a p)
-    wider x y l e = let r = someIn-e x a p e in someIn-i y a p (r .0) (has-lt y a (r .0) l (r .2)) (r .2) (r .3)
-
--- tests that agree below w say the same of the members
-someIn-same : (w a : ℕ) (p q : ℕ → Bool) → ((i : ℕ) → i < w → p i ≡ q i) → someIn w a p ≡ someIn w a q
-unfolding someIn
-someIn-same w a p q e = some-same w (λ i. has a i && p i) (λ i. has a i && q i) (λ i l. ap (λ (b : Bool). has a i && b) (e i l))
-
--- the union of sets h t of w bits over the members t of a
-has-over : (v w a : ℕ) (h : ℕ → ℕ) → ((t : ℕ) → h t < 2 ^ w) → (i : ℕ)
-    → has (setOf w (λ j. someIn v a (λ t. has (h t) j))) i ≡ someIn v a (λ t. has (h t) i)
-has-over v w a h b i =
-    bool-ext (has (setOf w p) i) (p i) (λ m. setOf-e w p i m .1)
-    (λ m. let r = someIn-e v a (λ t. has (h t) i) m in setOf-i w p i (has-lt w (h (r .0)) i (b (r .0)) (r .3)) m)
-  where
-    p : ℕ → Bool
-    p j = someIn v a (λ t. has (h t) j)
-
--- as a loop over the members makes it of the words g t, which are h t below v
-pub union-over : (u v w a : ℕ) (g h : ℕ → ℕ) → a < 2 ^ u → a < 2 ^ v → ((t : ℕ) → t < v → g t ≡ h t) → ((t : ℕ) → h t < 2 ^ w)
-    → fold (λ x t. union x (g t)) 0 (members u a) ≡ setOf w (λ i. someIn v a (λ t. has (h t) i))
-union-over u v w a g h k l e b =
-    same-members (λ i.
-    has-union-over g i u a 0
-    ∙ ap (λ (x : Bool). x || someIn u a (λ t. has (g t) i)) (has-none i)
-    ∙ someIn-width u v a (λ t. has (g t) i) k l
-    ∙ someIn-same v a (λ t. has (g t) i) (λ t. has (h t) i) (λ t m. ap (λ (x : ℕ). has x i) (e t m))
-    ∙ sym (has-over v w a h b i))
-
--- taking out what is not in a changes nothing
-minus-meet : (a b : ℕ) → minus a (meet a b) ≡ minus a b
-minus-meet a b =
-    same-members (λ i.
-    has-minus a (meet a b) i ∙ ap (λ (x : Bool). has a i && not x) (has-meet a b i) ∙ table (has a i) (has b i) ∙ sym (has-minus a b i))
-  where
-    table : (x y : Bool) → (x && not (x && y)) ≡ (x && not y)
-    table true y = refl
-    table false y = refl
-
--- a part of a fold that goes by its own step is a fold
-fold-part : {A B : Type 0} (f : A → ℕ → A) (g : B → ℕ → B) (part : A → B) → ((z : A) (t : ℕ) → part (f z t) ≡ g (part z) t)
-    → (z : A) (l : List ℕ) → part (fold f z l) ≡ fold g (part z) l
-unfolding fold
-fold-part f g part e z [] = refl
-fold-part f g part e z (t ∷ l) = fold-part f g part e (f z t) l ∙ ap (λ y. fold g y l) (e z t)
 
 -- ---- the moves and the sets after a round, in the words of the code
 

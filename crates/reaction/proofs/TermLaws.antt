@@ -10,7 +10,7 @@ use native.Mathlib.Numerals.{add-one}
 use native.Mathlib.Omega.{arith}
 use lib.Dec.{T, eqb, leb, ltb, eqb→eq, ltb→lt}
 use lib.Arith.{lt-of-le-ne}
-use lib.ListN.{length, getD}
+use lib.ListN.{getD}
 use borrow.Author.Tests.{eq-eqb, ne-eqb}
 use Rattle.sets.specs.Sets.{someIn}
 use Rattle.sets.proofs.Tests.{of-true, of-false, and-l, and-r, or-e}
@@ -20,6 +20,7 @@ use Rattle.sets.proofs.Quantifiers.{meets-some}
 use Rattle.meaning.specs.Sheet.{word, nOf, kOf, tOf, offset, termCount, termKind, termValue}
 use Rattle.meaning.specs.Check.{termOk, sheetRefusal}
 use Rattle.meaning.specs.Reaction.{TickSets, isDelay, holds, alternativeFrom, alternative}
+use Rattle.meaning.proofs.ListLaws.{getD-true-lt}
 use Rattle.meaning.proofs.SheetLaws.{sound, n-le, k-le, t-le}
 use Rattle.sheet.specs.Reading.{Record}
 use Rattle.sheet.proofs.Laws.{placed}
@@ -27,11 +28,6 @@ use Rattle.reaction.specs.Plan.{isEventKind, eventsOnly}
 use Rattle.reaction.specs.Facts.{factsOf, holdsBy, alternativeByFrom, alternativeBy}
 
 -- ---- kinds and values in a sheet past 1 to 6
-
-getD-true-lt : (l : List Bool) (c : ℕ) → T (getD l c false) → c < length l
-getD-true-lt [] c h = absurd h
-getD-true-lt (b ∷ l) zero h = omega arith
-getD-true-lt (b ∷ l) (suc c) h = omega (arith, getD-true-lt l c h)
 
 -- the conditions of the kinds in a row, where those of kinds 0, 3 and 7 are x, y and z: every other value is a number of an event, a
 -- mode or a transition

@@ -12,9 +12,8 @@ use borrow.Author.Tests.{not-true}
 use Rattle.sets.specs.Sets.{has, union, meet, single, setOf, those}
 use Rattle.sets.proofs.Tests.{is-true, is-false, of-true, of-false, and-l, and-r}
 use Rattle.sets.proofs.Facts.{setOf-e}
-use Rattle.sets.proofs.Membership.{has-none, has-above, has-union, has-meet, has-setOf, setOf-ext, union-lt, meet-le, lt-of-members}
-use Rattle.sets.proofs.Members.{empty}
-use Rattle.sets.proofs.Those.{has-those, those-lt}
+use Rattle.sets.proofs.Membership.{has-none, has-union, has-meet, has-setOf, setOf-ext, union-lt, meet-le}
+use Rattle.sets.proofs.Those.{has-those, those-part-lt, those-none}
 use Rattle.meaning.specs.Sheet.{kOf, tOf, source}
 use Rattle.meaning.specs.Check.{sheetRefusal}
 use Rattle.meaning.specs.Hierarchy.{complete}
@@ -27,16 +26,6 @@ use Rattle.reaction.specs.Rounds.{setsOf, Derived}
 use Rattle.reaction.specs.declared.tick.Sets.{Sets}
 use Rattle.reaction.proofs.PlanLaws.{sourcesIn-lt, has-sourcesIn}
 use Rattle.reaction.proofs.TermLaws.{alternative-by, events-alone}
-
--- ---- general: the members of a set with p are no more than the set
-
-those-part-lt : (w k s : ℕ) (p : ℕ → Bool) → s < 2 ^ k → those w s p < 2 ^ k
-those-part-lt w k s p h =
-    lt-of-members w k (those w s p) (those-lt w s p) (λ i l m. has-those w s p i m ∙ ap (λ (b : Bool). b && p i) (has-above k s i h l))
-
-those-none : (w s : ℕ) (p : ℕ → Bool) → s ≡ 0 → those w s p ≡ 0
-those-none w s p e =
-    empty w (those-lt w s p) (λ i l. has-those w s p i l ∙ ap (λ (b : Bool). b && p i) (ap (λ (x : ℕ). has x i) e ∙ has-none i))
 
 -- ---- the sets before the first round
 

@@ -1,12 +1,12 @@
 -- The plan: what depends on the sheet alone, in one array of words. Assumes nothing.
 use mathlib.Core.Path.{_≡_}
-use mathlib.Core.Bool.{Bool, true, false, not, _&&_, _||_, cond}
+use mathlib.Core.Bool.{Bool, not, _&&_, _||_, cond}
 use mathlib.Core.List.{List}
 use Prim.Native.Nat.{ℕ, _+_, _^_, _<_}
 use lib.Dec.{eqb, ltb}
-use lib.ListN.{length, getD}
+use lib.ListN.{getD}
 use Rattle.sets.specs.Sets.{has, single, setOf, every}
-use Rattle.meaning.specs.Sheet.{nOf, kOf, tOf, source, termCount, termKind}
+use Rattle.meaning.specs.Sheet.{kOf, tOf, source, termCount, termKind}
 use Rattle.meaning.specs.Hierarchy.{complete, exits, enters}
 use Rattle.meaning.specs.Reaction.{TickSets, isDelay, delay, isTimer, alternative, conflict, givesWay}
 
@@ -47,6 +47,10 @@ module _ (s : List ℕ) where
   unfoldable pub mixed : ℕ
   mixed = setOf (tOf s) (λ t. not (isDelay s t) && not (eventsOnly t))
 
+  -- the part FROM of an array of words: the transitions with source m
+  abbrev pub FromPart : List ℕ → Type 0
+  FromPart plan = (m : ℕ) → m < 32 → getD plan (512 + m) 0 ≡ sourcesIn (single m)
+
   -- an array of words is the plan of the sheet
   pub record Planned (plan : List ℕ) : Type 0 where
     pub exitsAt : (t : ℕ) → t < tOf s → getD plan (0 + t) 0 ≡ exits s t
@@ -57,7 +61,7 @@ module _ (s : List ℕ) where
     pub gainsAt : (t : ℕ) → t < tOf s → getD plan (320 + t) 0 ≡ sourcesIn (enters s t)
     pub delaysAt : (t : ℕ) → t < 64 → getD plan (384 + t) 0 ≡ cond (has timers t) (delay s t) 0
     pub hitsAt : (i : ℕ) → i < 2 ^ kOf s → getD plan (448 + i) 0 ≡ hitsOf i
-    pub fromAt : (m : ℕ) → m < 32 → getD plan (512 + m) 0 ≡ sourcesIn (single m)
+    pub fromAt : FromPart plan
     pub timingAt : getD plan 544 0 ≡ timers
     pub judgedAt : getD plan 545 0 ≡ mixed
     pub startAt : getD plan 546 0 ≡ complete s (single 0)

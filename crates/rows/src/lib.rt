@@ -5,7 +5,7 @@ ghost use Prim.Native.Nat.{_+_, _≤_};
 ghost use lib.ListN.{length};
 ghost use Rattle.rows.specs.Over.{over, threeOf, fiveOf, sixOf};
 
-// A block's header: its mode mask and its running timers, low and high.
+// A mode mask and a set of transitions, low and high: a block's header with its running timers, or the last words of a tick.
 pub struct Three {
     pub mask: u32,
     pub low: u32,
@@ -48,11 +48,13 @@ pub fn put_five(out: &mut [u32], at: usize, w: Five)
     requires { ⌜ at + 5 ≤ length (now out) ⌝ }
     ensures { λ _. ⌜ now (out .exit) ≡ over (now (out .entry)) at (fiveOf w) ⌝ }
 {
-    out[at] = w.entered;
-    out[at + 1] = w.exited;
-    out[at + 2] = w.active;
-    out[at + 3] = w.low;
-    out[at + 4] = w.high;
+    put_pair(out, at, w.entered, w.exited);
+    let rest = Three {
+        mask: w.active,
+        low: w.low,
+        high: w.high,
+    };
+    put_three(out, at + 2, rest);
 }
 
 pub fn put_six(out: &mut [u32], at: usize, w: Six)

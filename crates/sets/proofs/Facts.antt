@@ -8,11 +8,11 @@ use Prim.Native.Nat.{ℕ, zero, suc, _+_, _^_, _≤_, _<_, zero-le}
 use native.Mathlib.Nat.{le-refl, not-suc-le-zero, le-of-suc-le-suc, eq-or-lt-of-le, lt-of-not-le}
 use native.Mathlib.Decide.{decLe}
 use native.Mathlib.Omega.{arith}
-use lib.Dec.{T}
+use lib.Dec.{T, eqb→eq, eqb-refl}
 use lib.ListN.{length}
-use Rattle.sets.specs.Sets.{has, setOf, those, membersFrom, members, prepend, size, some, every, someIn, everyIn}
+use Rattle.sets.specs.Sets.{has, union, single, setOf, those, membersFrom, members, prepend, size, some, every, someIn, everyIn}
 use Rattle.sets.proofs.Tests.{of-false, and-l, and-r, and-i, or-e, or-l, or-r, implied, implies}
-use Rattle.sets.proofs.Membership.{has-above, has-setOf, setOf-lt, has-those, those-lt}
+use Rattle.sets.proofs.Membership.{has-above, has-union, has-single, has-setOf, setOf-lt, has-those, those-lt}
 
 -- a member of a set of w bits is below w
 pub has-lt : (w s i : ℕ) → s < 2 ^ w → T (has s i) → i < w
@@ -21,6 +21,23 @@ has-lt w s i h k = go (decLe w i)
     go : Dec (w ≤ i) → i < w
     go (yes q) = absurd (of-false (has-above w s i h q) k)
     go (no q) = lt-of-not-le q
+
+-- ---- a union, and one number alone
+
+pub union-e : (a b i : ℕ) → T (has (union a b) i) → T (has a i) ⊎ T (has b i)
+union-e a b i h = or-e (has a i) (has b i) (subst T (has-union a b i) h)
+
+pub union-l : (a b i : ℕ) → T (has a i) → T (has (union a b) i)
+union-l a b i h = subst T (sym (has-union a b i)) (or-l (has a i) (has b i) h)
+
+pub union-r : (a b i : ℕ) → T (has b i) → T (has (union a b) i)
+union-r a b i h = subst T (sym (has-union a b i)) (or-r (has a i) (has b i) h)
+
+pub single-e : (m i : ℕ) → T (has (single m) i) → i ≡ m
+single-e m i h = eqb→eq i m (subst T (has-single m i) h)
+
+pub single-i : (m : ℕ) → T (has (single m) m)
+single-i m = subst T (sym (has-single m m)) (eqb-refl m)
 
 -- ---- sets by a test
 

@@ -1,14 +1,16 @@
--- Loops that try a test on 0, 1, .. and leave at the first number that decides: the start, one turn, where it leaves and the
--- end. And how the code tests a call's result. Assumes nothing.
-use mathlib.Core.Path.{_≡_, refl, sym, ap, _∙_}
-use mathlib.Core.Bool.{Bool, true, false, not, _&&_}
-use Prim.Native.Nat.{ℕ, _+_, _≤_, _<_}
-use native.Mathlib.Nat.{le-antisymm}
+-- Loops that try a test on 0, 1, .. and leave at the first number that decides, or add to a set the numbers that pass: the start,
+-- one turn, where it leaves and the end. And how the code tests a call's result. Assumes nothing.
+use mathlib.Core.Path.{_≡_, refl, sym, ap, ap₂, _∙_}
+use mathlib.Core.Bool.{Bool, true, false, not, _&&_, and-assoc, and-comm}
+use Prim.Native.Nat.{ℕ, _+_, _*_, _^_, _≤_, _<_}
+use native.Mathlib.Nat.{le-antisymm, one-mul, zero-mul}
 use native.Mathlib.Numerals.{add-one}
+use lib.Bits.{or-zero-r}
 use lib.Dec.{ltb, ltb→lt}
 use borrow.Author.Tests.{not-true, not-false}
-use Rattle.sets.specs.Sets.{some, every}
+use Rattle.sets.specs.Sets.{union, single, digit, setOf, some, every}
 use Rattle.sets.proofs.Tests.{is-true, is-false, of-true, of-false, and-r}
+use Rattle.sets.proofs.Membership.{setOf-add, setOf-skip}
 use Rattle.sets.proofs.Facts.{some-i, every-e}
 
 module _ (p : ℕ → Bool) where
@@ -27,6 +29,11 @@ module _ (p : ℕ → Bool) where
   pub every-done : (n m : ℕ) → m ≤ n → n ≤ m → every m p ≡ true → every n p ≡ true
   every-done n m h k e = ap (λ (i : ℕ). every i p) (le-antisymm k h) ∙ e
 
+  -- without leaving: the flag so far, with the two tests of the next number
+  pub every-and : (m : ℕ) (ok a b : Bool) → ok ≡ every m p → p m ≡ (a && b) → (ok && a && b) ≡ every (m + 1) p
+  unfolding every
+  every-and m ok a b h e = rw (add-one, h, e) (and-assoc (every m p) a b ∙ and-comm (every m p) (a && b))
+
   -- some number below n has p: so far, none below m
   pub some-start : some 0 p ≡ false
   unfolding some
@@ -41,6 +48,29 @@ module _ (p : ℕ → Bool) where
 
   pub some-done : (n m : ℕ) → m ≤ n → n ≤ m → some m p ≡ false → some n p ≡ false
   some-done n m h k e = ap (λ (i : ℕ). some i p) (le-antisymm k h) ∙ e
+
+  -- the numbers below n that have p: so far, those below t; the next is tested by b, and added or passed over
+  pub setOf-none : 0 ≡ setOf 0 p
+  unfolding setOf
+  setOf-none = refl
+
+  pub setOf-added : (t : ℕ) {b : Bool} {r x y : ℕ} → r ≡ setOf t p → x ≡ single t → b ≡ p t → b ≡ true → y ≡ union r x → y ≡ setOf (t + 1) p
+  setOf-added t e k h w a = a ∙ ap₂ union e k ∙ setOf-add t p (sym h ∙ w)
+
+  pub setOf-passed : (t : ℕ) {b : Bool} {r y : ℕ} → r ≡ setOf t p → b ≡ p t → b ≡ false → y ≡ r → y ≡ setOf (t + 1) p
+  setOf-passed t e h w a = a ∙ e ∙ setOf-skip t p (sym h ∙ w)
+
+  -- or added as the test's digit at its place
+  pub setOf-tested : (t : ℕ) {b : Bool} {r x : ℕ} → r ≡ setOf t p → x ≡ digit b * 2 ^ t → b ≡ p t → union r x ≡ setOf (t + 1) p
+  unfolding digit
+  setOf-tested t {b} e k h = ap₂ union e k ∙ at b (sym h)
+    where
+      at : (c : Bool) → p t ≡ c → union (setOf t p) (digit c * 2 ^ t) ≡ setOf (t + 1) p
+      at true q = ap (union (setOf t p)) (one-mul (2 ^ t)) ∙ setOf-add t p q
+      at false q = ap (union (setOf t p)) (zero-mul (2 ^ t)) ∙ or-zero-r (setOf t p) ∙ setOf-skip t p q
+
+  pub setOf-width : {t n r : ℕ} → r ≡ setOf t p → t ≡ n → r ≡ setOf n p
+  setOf-width e k = rw k at e
 
 -- ---- a call's result b, which its contract says is c, tested by `if !b`
 pub passed : {b c : Bool} → b ≡ c → not b ≡ false → c ≡ true

@@ -29,6 +29,13 @@ unfoldable pub fold : {A : Type 0} → (A → ℕ → A) → A → List ℕ → 
 fold f z [] = z
 fold f z (i ∷ l) = fold f (f z i) l
 
+-- a part of a fold that goes by its own step is a fold
+pub fold-part : {A B : Type 0} (f : A → ℕ → A) (g : B → ℕ → B) (part : A → B) → ((z : A) (t : ℕ) → part (f z t) ≡ g (part z) t)
+    → (z : A) (l : List ℕ) → part (fold f z l) ≡ fold g (part z) l
+unfolding fold
+fold-part f g part e z [] = refl
+fold-part f g part e z (t ∷ l) = fold-part f g part e (f z t) l ∙ ap (λ y. fold g y l) (e z t)
+
 -- ---- the count
 
 length-prepend : (t : Bool) (i : ℕ) (l m : List ℕ) → length l ≡ length m → (j : ℕ) → length (prepend t i l) ≡ length (prepend t j m)
@@ -117,6 +124,10 @@ members-none w = go w 0
     go : (n i : ℕ) → membersFrom i n 0 ≡ []
     go zero i = refl
     go (suc n) i = prepend-false (has 0 i) i (membersFrom (suc i) n 0) (has-none i) ∙ go n (suc i)
+
+pub size-0 : (w : ℕ) → size w 0 ≡ 0
+unfolding size
+size-0 w = ap length (members-none w)
 
 -- ---- the lowest member
 

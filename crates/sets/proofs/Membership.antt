@@ -9,7 +9,7 @@ use native.Mathlib.Omega.{arith}
 use mathlib.Core.Logic.{⊎-elim}
 use lib.Dec.{eqb, ltb, eqb·zero-suc, eqb·suc-zero, eqb·suc-suc, leb·zero, leb·suc-zero, leb·suc-suc}
 use lib.Arith.{lt-one, digits-lt}
-use lib.Pow.{pow-pos, pow-mono, pow-lt, ones-lt, ones-split, high, split, shr-shr}
+use lib.Pow.{pow-pos, pow-add, pow-mono, pow-lt, ones-lt, ones-split, high, split, shr-shr}
 use lib.Bits.{bitAnd, bitOr, and-step, or-step, and-le-l, or-lt, or-shifted-r, and-mask, block-half, block-odd}
 use Rattle.sets.specs.Sets.{has, union, meet, minus, single, below, digit, setOf, those}
 
@@ -112,6 +112,16 @@ pub has-minus : (a b i : ℕ) → has (minus a b) i ≡ (has a i && not (has b i
 unfolding but-not
 has-minus = has-op minus (λ x y. x - min x y) but-not minus-step (λ x y hx hy. omega arith) (table (λ x y. x - min x y) but-not refl refl refl refl)
 
+-- taking out what is not in a changes nothing
+pub minus-meet : (a b : ℕ) → minus a (meet a b) ≡ minus a b
+minus-meet a b =
+    same-members (λ i.
+    has-minus a (meet a b) i ∙ ap (λ (x : Bool). has a i && not x) (has-meet a b i) ∙ at (has a i) (has b i) ∙ sym (has-minus a b i))
+  where
+    at : (x y : Bool) → (x && not (x && y)) ≡ (x && not y)
+    at true y = refl
+    at false y = refl
+
 -- the complement at width w, `!b`
 pub has-not : (w b i : ℕ) → b < 2 ^ w → i < w → has (2 ^ w - 1 - b) i ≡ not (has b i)
 has-not zero b i h l = absurd (not-suc-le-zero l)
@@ -165,6 +175,13 @@ single-lt w m h = pow-lt h
 -- `1 << m` at width w
 pub one-shl : (w m : ℕ) → m < w → 1 * 2 ^ m % 2 ^ w ≡ single m
 one-shl w m h = ap (λ (x : ℕ). x % 2 ^ w) (one-mul (2 ^ m)) ∙ mod-eq-of-lt (single-lt w m h)
+
+-- `(1 << a) << k`
+pub shl-shl : (w a k : ℕ) → a + k < w → 1 * 2 ^ a % 2 ^ w * 2 ^ k % 2 ^ w ≡ 2 ^ (a + k)
+shl-shl w a k h =
+    ap (λ (x : ℕ). x * 2 ^ k % 2 ^ w) (one-shl w a (omega arith))
+    ∙ ap (λ (x : ℕ). x % 2 ^ w) (sym (pow-add 2 a k))
+    ∙ mod-eq-of-lt (pow-lt {j = w} h)
 
 pub has-below : (n i : ℕ) → has (below n) i ≡ ltb i n
 has-below zero i = has-none i ∙ sym (leb·suc-zero i)

@@ -29,6 +29,11 @@ unfolding some
 some-same zero p q e = refl
 some-same (suc n) p q e = ap₂ _||_ (e n (le-refl (suc n))) (some-same n p q (λ i l. e i (le-step l)))
 
+-- tests that agree below w say the same of the members
+pub someIn-same : (w a : ℕ) (p q : ℕ → Bool) → ((i : ℕ) → i < w → p i ≡ q i) → someIn w a p ≡ someIn w a q
+unfolding someIn
+someIn-same w a p q e = some-same w (λ i. has a i && p i) (λ i. has a i && q i) (λ i l. ap (λ (b : Bool). has a i && b) (e i l))
+
 -- ---- every number below n has p
 
 pub every-same : (n : ℕ) (p q : ℕ → Bool) → ((i : ℕ) → i < n → p i ≡ q i) → every n p ≡ every n q

@@ -2,7 +2,9 @@
 use mathlib.Core.Path.{_≡_, refl, sym, subst}
 use mathlib.Core.Logic.{_⊎_, inl, inr}
 use mathlib.Core.Bool.{Bool, true, false, not, _&&_, _||_, cond}
-use lib.Dec.{T}
+use Prim.Native.Nat.{ℕ}
+use lib.Dec.{T, eqb, eqb→eq}
+use borrow.Author.Tests.{eq-eqb}
 
 -- as an equation, and back
 pub is-true : (b : Bool) → T b → b ≡ true
@@ -58,6 +60,10 @@ pub bool-ext : (a b : Bool) → (T a → T b) → (T b → T a) → a ≡ b
 bool-ext true b f g = sym (is-true b (f tt))
 bool-ext false true f g = absurd (g tt)
 bool-ext false false f g = refl
+
+pub eqb-sym : (a b : ℕ) → eqb a b ≡ eqb b a
+eqb-sym a b =
+    bool-ext (eqb a b) (eqb b a) (λ k. of-true (eq-eqb b a (sym (eqb→eq a b k)))) (λ k. of-true (eq-eqb a b (sym (eqb→eq b a k))))
 
 -- a choice with the same on both sides, and two choices that agree where the test passes
 pub cond-same : {A : Type 0} (b : Bool) (x : A) → cond b x x ≡ x

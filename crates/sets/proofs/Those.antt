@@ -10,9 +10,18 @@ use lib.ListN.{length, getD}
 use borrow.Author.Tests.{eq-eqb, ne-eqb}
 use Rattle.sets.specs.Sets.{has, union, minus, single, those, members, membersFrom, prepend, size}
 use Rattle.sets.proofs.Tests.{is-true, of-true, of-false, and-l}
-use Rattle.sets.proofs.Membership.{has-none, has-union, has-minus, has-single, union-lt, single-lt, minus-le, ext}
+use Rattle.sets.proofs.Membership.{has-none, has-above, has-union, has-minus, has-single, union-lt, single-lt, minus-le, lt-of-members, ext}
 pub use Rattle.sets.proofs.Membership.{has-those, those-lt, those-same}
 use Rattle.sets.proofs.Members.{Turn, empty, without-it, without-other}
+
+-- the members with p are no more than the set
+pub those-part-lt : (w k s : ℕ) (p : ℕ → Bool) → s < 2 ^ k → those w s p < 2 ^ k
+those-part-lt w k s p h =
+    lt-of-members w k (those w s p) (those-lt w s p) (λ i l m. has-those w s p i m ∙ ap (λ (b : Bool). b && p i) (has-above k s i h l))
+
+pub those-none : (w s : ℕ) (p : ℕ → Bool) → s ≡ 0 → those w s p ≡ 0
+those-none w s p e =
+    empty w (those-lt w s p) (λ i l. has-those w s p i l ∙ ap (λ (b : Bool). b && p i) (ap (λ (x : ℕ). has x i) e ∙ has-none i))
 
 -- ---- the loop: the set built so far is `minus (those w all p) s`, where s is what is left of all
 
@@ -88,6 +97,15 @@ pub those-skip : {w s t r : ℕ} (all : ℕ) (p : ℕ → Bool) → Turn w s t r
 those-skip {w} {s} {t} {r} all p u e =
     built-skip (those w all p) u (those-lt w all p)
     (has-those w all p t (u .lowest .small) ∙ ap (λ (b : Bool). has all t && b) e ∙ and-false (has all t))
+
+-- the same as the code makes it: t tested by b, and x the set of t alone
+module _ {w s t r : ℕ} (all : ℕ) (p : ℕ → Bool) (u : Turn w s t r) where
+  pub those-added : {b : Bool} {a x y : ℕ} → Subset s all → a ≡ minus (those w all p) s → x ≡ single t → b ≡ p t → b ≡ true → y ≡ union a x
+      → y ≡ minus (those w all p) r
+  those-added i e k h v c = c ∙ ap₂ union e k ∙ those-add all p u i (sym h ∙ v)
+
+  pub those-passed : {b : Bool} {a y : ℕ} → a ≡ minus (those w all p) s → b ≡ p t → b ≡ false → y ≡ a → y ≡ minus (those w all p) r
+  those-passed e h v c = c ∙ e ∙ those-skip all p u (sym h ∙ v)
 
 -- ---- the member of number i, counted from 0, is the one with i members below it
 

@@ -1,17 +1,18 @@
--- A set seen at two widths, and a loop that tests every member of a set. Assumes nothing.
+-- A set seen at two widths, the union of sets over its members at both, and a loop that tests every member of a set. Assumes nothing.
 use mathlib.Core.Path.{_≡_, sym, ap, _∙_, subst}
-use mathlib.Core.Bool.{Bool, true, false, _&&_}
+use mathlib.Core.Bool.{Bool, true, false, _&&_, _||_}
 use Prim.Native.Nat.{ℕ, _^_, _≤_, _<_}
 use native.Mathlib.Decide.{ℕ-discrete}
 use native.Mathlib.Nat.{lt-of-le-of-lt}
 use lib.Bits.{and-comm}
 use lib.Dec.{T, ltb, ltb→lt, lt→ltb}
 use borrow.Author.Tests.{lt-ltb, le-ltb}
-use Rattle.sets.specs.Sets.{has, meet, below, setOf, those, size, everyIn}
+use Rattle.sets.specs.Sets.{has, union, meet, below, setOf, those, members, size, someIn, everyIn}
 use Rattle.sets.proofs.Tests.{is-true, is-false, of-true, bool-ext}
-use Rattle.sets.proofs.Facts.{has-lt, everyIn-e, everyIn-i}
-use Rattle.sets.proofs.Membership.{has-meet, has-none, has-below, has-setOf, meet-le, setOf-lt, setOf-ext, lt-of-members}
-use Rattle.sets.proofs.Members.{Turn, ones-size, without-other}
+use Rattle.sets.proofs.Facts.{has-lt, setOf-e, setOf-i, someIn-e, someIn-i, everyIn-e, everyIn-i}
+use Rattle.sets.proofs.Membership.{same-members, has-meet, has-none, has-below, has-setOf, meet-le, setOf-lt, setOf-ext, lt-of-members}
+use Rattle.sets.proofs.Members.{Turn, fold, ones-size, without-other}
+use Rattle.sets.proofs.Quantifiers.{someIn-same, has-union-over}
 use Rattle.sets.proofs.Those.{subset-turn}
 
 pub meet-setOf : (n x : ℕ) (p : ℕ → Bool) → meet x (setOf n p) ≡ those n x p
@@ -29,6 +30,33 @@ everyIn-width v w {s} p h k =
     bool-ext (everyIn v s p) (everyIn w s p)
     (λ e. everyIn-i w s p (λ i l m. everyIn-e v s p e i (has-lt v s i h m) m))
     (λ e. everyIn-i v s p (λ i l m. everyIn-e w s p e i (has-lt w s i k m) m))
+
+pub someIn-width : (v w : ℕ) {s : ℕ} (p : ℕ → Bool) → s < 2 ^ v → s < 2 ^ w → someIn v s p ≡ someIn w s p
+someIn-width v w {s} p h k = bool-ext (someIn v s p) (someIn w s p) (wider v w k) (wider w v h)
+  where
+    wider : (x y : ℕ) → s < 2 ^ y → T (someIn x s p) → T (someIn y s p)
+    wider x y l e = let r = someIn-e x s p e in someIn-i y s p (r .0) (has-lt y s (r .0) l (r .2)) (r .2) (r .3)
+
+-- the union of sets h t of w bits over the members t of a
+pub has-over : (v w a : ℕ) (h : ℕ → ℕ) → ((t : ℕ) → h t < 2 ^ w) → (i : ℕ)
+    → has (setOf w (λ j. someIn v a (λ t. has (h t) j))) i ≡ someIn v a (λ t. has (h t) i)
+has-over v w a h b i =
+    bool-ext (has (setOf w p) i) (p i) (λ m. setOf-e w p i m .1)
+    (λ m. let r = someIn-e v a (λ t. has (h t) i) m in setOf-i w p i (has-lt w (h (r .0)) i (b (r .0)) (r .3)) m)
+  where
+    p : ℕ → Bool
+    p j = someIn v a (λ t. has (h t) j)
+
+-- as a loop over the members makes it of the words g t, which are h t below v
+pub union-over : (u v w a : ℕ) (g h : ℕ → ℕ) → a < 2 ^ u → a < 2 ^ v → ((t : ℕ) → t < v → g t ≡ h t) → ((t : ℕ) → h t < 2 ^ w)
+    → fold (λ x t. union x (g t)) 0 (members u a) ≡ setOf w (λ i. someIn v a (λ t. has (h t) i))
+union-over u v w a g h k l e b =
+    same-members (λ i.
+    has-union-over g i u a 0
+    ∙ ap (λ (x : Bool). x || someIn u a (λ t. has (g t) i)) (has-none i)
+    ∙ someIn-width u v (λ t. has (g t) i) k l
+    ∙ someIn-same v a (λ t. has (g t) i) (λ t. has (h t) i) (λ t m. ap (λ (x : ℕ). has x i) (e t m))
+    ∙ sym (has-over v w a h b i))
 
 pub everyIn-below : (w n x : ℕ) → x < 2 ^ w → everyIn w x (has (below n)) ≡ ltb x (2 ^ n)
 everyIn-below w n x h =

@@ -1,16 +1,16 @@
 -- The sheet's tests one by one: what the head and the pairs say once they have passed, and what each test comes to where its
 -- first parts have. Assumes nothing.
-use mathlib.Core.Path.{_≡_, refl, sym, ap, _∙_}
+use mathlib.Core.Path.{_≡_, refl, sym, ap}
 use mathlib.Core.Logic.{_⊎_, inl, inr}
 use mathlib.Core.Bool.{Bool, true, false, not, _&&_, and-assoc, and-true, and-false}
-use mathlib.Core.List.{List, [], _∷_}
+use mathlib.Core.List.{List}
 use Prim.Native.Nat.{ℕ, zero, suc, _+_, _*_, _/_, _%_, _^_, _-_, _≤_, _<_}
-use native.Mathlib.Nat.{le-refl, le-trans, le-of-eq, le-of-suc-le-suc, eq-or-lt-of-le, div-eq-of-lt, div-lt-iff-lt-mul}
+use native.Mathlib.Nat.{le-refl, le-trans, le-of-eq, eq-or-lt-of-le, div-eq-of-lt, div-lt-iff-lt-mul}
 use native.Mathlib.Numerals.{add-one}
 use native.Mathlib.Omega.{arith}
 use lib.Dec.{T, eqb, leb, ltb, eqb→eq, ltb→lt, leb→le, lt→ltb}
 use lib.Pow.{pow-pos}
-use lib.ListN.{length, getD}
+use lib.ListN.{length}
 use borrow.Author.Tests.{le-leb, lt-ltb, eq-eqb, ne-eqb}
 use Rattle.sets.specs.Sets.{every}
 use Rattle.sets.proofs.Tests.{of-true, and-l, and-r, bool-ext}
@@ -18,17 +18,8 @@ use Rattle.sets.proofs.Facts.{every-e}
 use Rattle.meaning.specs.Lists.{allOf}
 use Rattle.meaning.specs.Sheet.{nOf, kOf, tOf, kind, offset, recordLength, endBefore, source, target, termCount, termKind, termValue, contains, meeting}
 use Rattle.meaning.specs.Check.{headOk, pairOk, pairsOk, endOk, termOk}
-use Rattle.meaning.proofs.ListLaws.{allOf-e}
+use Rattle.meaning.proofs.ListLaws.{allOf-e, steps-le}
 use Rattle.sheet.specs.Reading.{Record, Term}
-
--- ---- lists of tests (general)
-
-pub allOf-fails : (bs : List Bool) (i : ℕ) → getD bs i true ≡ false → allOf bs ≡ false
-unfolding allOf
-allOf-fails [] zero e = e
-allOf-fails [] (suc i) e = e
-allOf-fails (b ∷ bs) zero e = ap (λ (c : Bool). c && allOf bs) e
-allOf-fails (b ∷ bs) (suc i) e = ap (λ (c : Bool). b && c) (allOf-fails bs i e) ∙ and-false b
 
 -- ---- the head
 
@@ -77,17 +68,9 @@ end-next s h t l =
     let at = eqb→eq (offset s t) (endBefore s t) (allOf-e _ (pair-tests s h t l) .0) in
     omega arith
 
-end-le : (s : List ℕ) → T (pairsOk s) → (t u : ℕ) → t ≤ u → u ≤ tOf s → endBefore s t ≤ endBefore s u
-end-le s h t zero k l = le-of-eq (ap (endBefore s) (omega arith))
-end-le s h t (suc u) k l = go (eq-or-lt-of-le k) (λ i. end-le s h t u i (omega arith))
-  where
-    go : (t ≡ suc u) ⊎ (t < suc u) → (t ≤ u → endBefore s t ≤ endBefore s u) → endBefore s t ≤ endBefore s (suc u)
-    go (inl e) ih = le-of-eq (ap (endBefore s) e)
-    go (inr i) ih = le-trans (ih (le-of-suc-le-suc i)) (end-next s h u l)
-
 record-room : (s : List ℕ) → T (pairsOk s) → (t : ℕ) → t < tOf s → offset s t + recordLength s t ≤ length s
 unfolding endBefore
-record-room s h t l = le-trans (end-le s h (suc t) (tOf s) l (le-refl (tOf s))) (le-of-eq (pairs-end s h))
+record-room s h t l = le-trans (steps-le (endBefore s) (tOf s) (end-next s h) (suc t) (tOf s) l (le-refl (tOf s))) (le-of-eq (pairs-end s h))
 
 -- the record of transition t
 pub record Placed (s : List ℕ) (t : ℕ) : Type 0 where

@@ -7,7 +7,6 @@ use native.Mathlib.Nat.{zero-add}
 use native.Mathlib.Omega.{arith}
 use lib.Dec.{T}
 use lib.ListN.{length, getD, take, set}
-use lib.Seq.{take-all}
 use Rattle.sets.specs.Sets.{has}
 use Rattle.sets.proofs.Tests.{is-true, of-true}
 use Rattle.sets.proofs.Facts.{setOf-e, setOf-i}
@@ -18,7 +17,7 @@ use Rattle.meaning.proofs.ListLaws.{rowFrom-at, rowFrom-length}
 use Rattle.meaning.proofs.SheetLaws.{Sound}
 use Rattle.meaning.proofs.RunLaws.{delay-small}
 use Rattle.reaction.specs.Plan.{timers, Planned}
-use Rattle.clock.proofs.ArrayLaws.{copy-turn}
+use Rattle.clock.proofs.ArrayLaws.{copy-turn, copy-done}
 use Rattle.simulator.specs.Runs.{Delays}
 
 -- ---- the delays of the plan, copied word by word
@@ -40,7 +39,7 @@ module _ (plan : List ℕ) where
         ap (λ (v : ℕ). take (t + 1) (set r t v)) (sym (delay-at t l)) ∙ copy-turn r (planDelays plan) t (omega arith) (omega (arith, long)) e
 
     pub delays-done : 64 ≤ t → r ≡ planDelays plan
-    delays-done l = sym (take-all t r (omega arith)) ∙ e ∙ take-all t (planDelays plan) (omega (arith, long))
+    delays-done l = copy-done r (planDelays plan) t (omega arith) (omega (arith, long)) e
 
   pub plan-delays : (s delays : List ℕ) → Planned s plan → delays ≡ planDelays plan → Delays s delays
   plan-delays s delays h e t l = ap (λ (d : List ℕ). getD d t 0) e ∙ delay-at t l ∙ h .delaysAt t l

@@ -359,5 +359,5 @@ module _ (s inputs out : List ℕ) (q : State) where
       go false false true = zero-le
       go false false false = run-rounds s inputs q
 
-  pub answered : (r : Run) → r ≡ sheetRun s q inputs out → (r ≡ sheetRun s q inputs out) × (r .rounds ≤ tOf s * r .done)
-  answered r e = (e, rw e run-few)
+  pub answered : (r : Run) {low : ℕ} → r ≡ sheetRun s q inputs out → low < 2 ^ 32 → (r ≡ sheetRun s q inputs out) × (r .rounds ≤ tOf s * r .done) × (low < 2 ^ 32)
+  answered r e l = (e, rw e run-few, l)

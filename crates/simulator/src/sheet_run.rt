@@ -2,7 +2,7 @@
 ghost use mathlib.Core.Path.{_≡_};
 ghost use mathlib.Core.Bool.{true};
 ghost use mathlib.Core.List.{List};
-ghost use Prim.Native.Nat.{ℕ, _+_, _*_, _≤_};
+ghost use Prim.Native.Nat.{ℕ, _+_, _*_, _^_, _≤_, _<_};
 ghost use lib.ListN.{length, getD};
 ghost use Rattle.sets.specs.Sets.{has};
 ghost use Rattle.rows.specs.Over.{fiveOf};
@@ -64,7 +64,7 @@ fn five_words(z: Sets) -> Five
 // A run that ends after some ticks, in the mode set x with these timers running; no deadline of theirs is past.
 fn ended(ends: &[u64; 64], x: u32, timers: u64, done: usize, total: Rounds, why: Refusal) -> Ran
     requires { ⌜ ((t : ℕ) → has timers t ≡ true → done ≤ getD (now ends) t 0) ⌝ }
-    ensures { λ r. ⌜ ((out : List ℕ) → ranOf r out ≡ endedRun (now (ends .entry)) x timers done (totalOf total) (numberOf why) out) ⌝ }
+    ensures { λ r. ⌜ ((out : List ℕ) → ranOf r out ≡ endedRun (now (ends .entry)) x timers done (totalOf total) (numberOf why) out) × (r .rounds .1 ≡ total .1) ⌝ }
 {
     let readings = readings_at(ends, timers, done as u64);
     Ran {
@@ -98,7 +98,7 @@ fn ticks(
     out: &mut [u32],
 ) -> Ran
     requires { ⌜ (sheetRefusal (now sheet) ≡ 0) × Planned (now sheet) (now plan) × Delays (now sheet) (now delays) × (stateOk (now sheet) (stateOf start) ≡ true) × (5 * length (now inputs) ≤ length (now out)) ⌝ }
-    ensures { λ r. ⌜ ranOf r (now (out .exit)) ≡ ran (now (out .entry)) (sheetTicks (now (sheet .entry)) (now (inputs .entry)) (stateOf start)) ⌝ }
+    ensures { λ r. ⌜ (ranOf r (now (out .exit)) ≡ ran (now (out .entry)) (sheetTicks (now (sheet .entry)) (now (inputs .entry)) (stateOf start))) × (r .rounds .1 < 2 ^ 32) ⌝ }
 {
     let timers = plan[TIMERS];
     let k = event_count(sheet);
@@ -138,7 +138,7 @@ fn ticks(
 
 // A run that stops before any tick.
 fn stops(state: State, why: Refusal) -> Ran
-    ensures { λ r. ⌜ ((out : List ℕ) → ranOf r out ≡ record { done = 0; state = stateOf state; refusal = numberOf why; rounds = 0; out = out }) ⌝ }
+    ensures { λ r. ⌜ ((out : List ℕ) → ranOf r out ≡ record { done = 0; state = stateOf state; refusal = numberOf why; rounds = 0; out = out }) × (r .rounds .1 ≡ 0) ⌝ }
 {
     Ran {
         done: Ticks(0),
@@ -151,7 +151,7 @@ fn stops(state: State, why: Refusal) -> Ran
 // The sheet run, on any sheet words, state, input sets and output words: 1 to 6, 14, 12, then tick by tick 13, then 8 or 9. A
 // refused tick leaves the state of the tick before; only the five words of each done tick are written, at 5p.
 pub fn run(sheet: &[u32], state: State, inputs: &[u32], out: &mut [u32]) -> Ran
-    ensures { λ r. ⌜ (ranOf r (now (out .exit)) ≡ sheetRun (now (sheet .entry)) (stateOf state) (now (inputs .entry)) (now (out .entry))) × (totalOf (r .rounds) ≤ tOf (now (sheet .entry)) * r .done .0) ⌝ }
+    ensures { λ r. ⌜ (ranOf r (now (out .exit)) ≡ sheetRun (now (sheet .entry)) (stateOf state) (now (inputs .entry)) (now (out .entry))) × (totalOf (r .rounds) ≤ tOf (now (sheet .entry)) * r .done .0) × (r .rounds .1 < 2 ^ 32) ⌝ }
 {
     let why = sheet::check(sheet);
     if number(why) != 0 {

@@ -1,6 +1,7 @@
--- `conform::answer` meets its contract: the current sheet lies within the words for it before and after. Assumes nothing.
-use lib.ListN.{length-take}
+-- `conform::answer` meets its contract: the current sheet and the current table lie within the words for them before and after. Assumes nothing.
+use lib.ListN.{length, length-take}
 use native.Mathlib.Omega.{arith}
+use Rattle.conform.proofs.StepLaws.{within-le}
 use borrow.Author.Needs.{needs}
 use Rattle.conform.proofs.answer.Statement.{statement}
 use Rattle.conform.proofs.answer.Tie as tie
@@ -29,6 +30,9 @@ slice-aggregate-compile c = simp length-take (omega arith)
 compile-requires : tie.Need-compile-requires
 compile-requires c κs = search needs
 
+answer-table-requires : tie.Need-answer-table-requires
+answer-table-requires c κs = search needs
+
 same-length : tie.Need-same-length
 same-length c = search needs
 
@@ -44,11 +48,19 @@ returns-2 c = search needs
 same-length-3 : tie.Need-same-length-3
 same-length-3 c = search needs
 
+same-length-4 : tie.Need-same-length-4
+same-length-4 c = search needs
+
 returns-3 : tie.Need-returns-3
 returns-3 c = search needs
 
+same-length-5 : tie.Need-same-length-5
+same-length-5 c = search needs
+
 returns-4 : tie.Need-returns-4
-returns-4 c = search needs
+returns-4 c =
+    let st = c .before .before .before .before .before .before .before .before .before .before .before in
+    within-le (c .before .before .answer-table .result) (st .args .from .words) (length (st .args .sheet .now)) (length (st .args .table .now)) (st .pre .0) (c .before .before .answer-table .ensures)
 
 pub answer-spec : {M : Type 1} → statement M
 answer-spec =
@@ -62,10 +74,13 @@ answer-spec =
     slice-reshare-prefix-compile
     slice-aggregate-compile
     compile-requires
+    answer-table-requires
     same-length
     returns
     same-length-2
     returns-2
     same-length-3
+    same-length-4
     returns-3
+    same-length-5
     returns-4)

@@ -1,19 +1,20 @@
--- `conform::answer_all` is safe and ends. The loop's invariant: the current sheet lies within the words for it, and these keep their number. The measure
--- is the number of turns that are left. Assumes nothing.
+-- `conform::answer_all` is safe and ends. The loop's invariant: the current sheet and the current table lie within the words for them, and these keep
+-- their number. The measure is the number of turns that are left. Assumes nothing.
 use borrow.Author.Needs.{needs}
-use mathlib.Core.Path.{_≡_, ap}
+use mathlib.Core.Path.{_≡_}
 use native.Mathlib.Omega.{arith}
-use Rattle.conform.specs.Steps.{wordsOf}
 use Prim.Native.Nat.{_≤_}
 use lib.ListN.{length}
+use Rattle.conform.proofs.StepLaws.{within-next}
 use Rattle.conform.proofs.answer_all.Statement.{statement}
 use Rattle.conform.proofs.answer_all.Tie as tie
 
 abbrev Inv-loop : tie.InvT-loop
-Inv-loop buf₀ sheet₀ left₀ turns₀ buf sheet left turns = (length sheet ≡ length sheet₀) × (left .words ≤ length sheet)
+Inv-loop buf₀ sheet₀ table₀ left₀ turns₀ buf sheet table left turns =
+    (length sheet ≡ length sheet₀) × (length table ≡ length table₀) × (left .words ≤ length sheet) × (left .lent ≤ length table) × (left .length ≤ left .lent)
 
 abbrev μ-loop : tie.MeasureT-loop
-μ-loop buf₀ sheet₀ left₀ turns₀ buf sheet left turns = turns
+μ-loop buf₀ sheet₀ table₀ left₀ turns₀ buf sheet table left turns = turns
 
 loop-holds : tie.Need-loop-holds Inv-loop μ-loop
 loop-holds c = search needs
@@ -30,6 +31,9 @@ enum-told c = search needs
 same-length : tie.Need-same-length Inv-loop μ-loop
 same-length c = search needs
 
+same-length-2 : tie.Need-same-length-2 Inv-loop μ-loop
+same-length-2 c = search needs
+
 returns : tie.Need-returns Inv-loop μ-loop
 returns c = search needs
 
@@ -40,10 +44,15 @@ loop-less : tie.Need-loop-less Inv-loop μ-loop
 loop-less c = search needs
 
 loop-again : tie.Need-loop-again Inv-loop μ-loop
-loop-again c = (search needs, omega (arith, ap wordsOf (c .before .step .given .1)))
+loop-again c =
+    let w = within-next _ _ _ _ (c .before .step .given .1) (c .before .before .before .before .before .before .before .answer .ensures) in
+    (search needs, search needs, omega (arith, w .0), omega (arith, w .1), w .2)
 
-same-length-2 : tie.Need-same-length-2 Inv-loop μ-loop
-same-length-2 c = search needs
+same-length-3 : tie.Need-same-length-3 Inv-loop μ-loop
+same-length-3 c = search needs
+
+same-length-4 : tie.Need-same-length-4 Inv-loop μ-loop
+same-length-4 c = search needs
 
 returns-2 : tie.Need-returns-2 Inv-loop μ-loop
 returns-2 c = search needs
@@ -59,9 +68,11 @@ answer-all-spec =
     enum-known-step
     enum-told
     same-length
+    same-length-2
     returns
     sub-turns
     loop-less
     loop-again
-    same-length-2
+    same-length-3
+    same-length-4
     returns-2)

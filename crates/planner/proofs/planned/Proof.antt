@@ -13,38 +13,35 @@ use Rattle.planner.proofs.planned.Statement.{statement}
 use Rattle.planner.proofs.planned.Tie as tie
 
 -- what was worked out before the first part, from each place on
-abbrev by-from : tie.After-put-from → tie.After-sure
+abbrev by-from : tie.After-put-from → tie.After-classes-of
 by-from c = c .before .before
 
-abbrev by-exits : tie.After-put-exits → tie.After-sure
-by-exits c = by-from (c .before .before .before)
+abbrev by-ends : tie.After-put-ends → tie.After-classes-of
+by-ends c = by-from (c .before .before .before)
 
-abbrev by-enters : tie.After-put-enters → tie.After-sure
-by-enters c = by-exits (c .before .before)
+abbrev by-loses : tie.After-put-changes → tie.After-classes-of
+by-loses c = by-ends (c .before .before)
 
-abbrev by-loses : tie.After-put-changes → tie.After-sure
-by-loses c = by-enters (c .before .before)
-
-abbrev by-gains : tie.After-put-changes2 → tie.After-sure
+abbrev by-gains : tie.After-put-changes2 → tie.After-classes-of
 by-gains c = by-loses (c .before .before)
 
-abbrev by-conflicts : tie.After-put-conflicts → tie.After-sure
+abbrev by-conflicts : tie.After-put-conflicts → tie.After-classes-of
 by-conflicts c = by-gains (c .before .before .before)
 
-abbrev by-yielders : tie.After-put-yielders → tie.After-sure
+abbrev by-yielders : tie.After-put-yielders → tie.After-classes-of
 by-yielders c = by-conflicts (c .before .before .before)
 
-abbrev by-delays : tie.After-put-delays → tie.After-sure
+abbrev by-delays : tie.After-put-delays → tie.After-classes-of
 by-delays c = by-yielders (c .before .before)
 
-abbrev by-hits : tie.After-put-hits → tie.After-sure
+abbrev by-hits : tie.After-put-hits → tie.After-classes-of
 by-hits c = by-delays (c .before .before)
 
-abbrev sheet : tie.After-sure → List ℕ
-sheet c = c .before .before .before .before .args .sheet .now
+abbrev sheet : tie.After-classes-of → List ℕ
+sheet c = c .before .before .before .args .sheet .now
 
-past : (c : tie.After-sure) → sheetRefusal (sheet c) ≡ 0
-past c = c .before .before .before .before .pre
+past : (c : tie.After-classes-of) → sheetRefusal (sheet c) ≡ 0
+past c = c .before .before .before .pre
 
 -- the parts laid so far, after each
 laid-from : (c : tie.After-put-from) → let s = sheet (by-from c) in Laid (fromPiece s ∷ []) (c .put-from .last .1 .0)
@@ -52,21 +49,18 @@ laid-from c =
     let s = sheet (by-from c) in
     lay (fromPiece s) (record { within = omega arith; inside = omega arith }) (none-laid (replicate 547 0) refl) (c .put-from .ensures)
 
-laid-exits : (c : tie.After-put-exits) → let s = sheet (by-exits c) in Laid (rowPiece s 0 (exits s) ∷ fromPiece s ∷ []) (c .put-exits .last .1 .1 .0)
-laid-exits c =
-    let s = sheet (by-exits c) in
-    lay (rowPiece s 0 (exits s)) (row-kept s (past (by-exits c)) 0 (exits s) (omega arith)) (laid-from (c .before .before .before)) (c .put-exits .ensures)
-
-laid-enters : (c : tie.After-put-enters) → let s = sheet (by-enters c) in Laid (ends s) (c .put-enters .last .1 .0)
-laid-enters c =
-    let s = sheet (by-enters c) in
-    lay (rowPiece s 64 (enters s)) (row-kept s (past (by-enters c)) 64 (enters s) (omega arith)) (laid-exits (c .before .before)) (c .put-enters .ensures)
+laid-ends : (c : tie.After-put-ends) → let s = sheet (by-ends c) in Laid (ends s) (c .put-ends .last .1 .1 .0)
+laid-ends c =
+    let s = sheet (by-ends c) in
+    let h = past (by-ends c) in
+    lay (rowPiece s 64 (enters s)) (row-kept s h 64 (enters s) (omega arith))
+    (lay (rowPiece s 0 (exits s)) (row-kept s h 0 (exits s) (omega arith)) (laid-from (c .before .before .before)) refl) (c .put-ends .ensures)
 
 laid-loses : (c : tie.After-put-changes) → let s = sheet (by-loses c) in Laid (losesPiece s ∷ ends s) (c .put-changes .last .1 .0)
 laid-loses c =
     let s = sheet (by-loses c) in
     let h = past (by-loses c) in
-    let d = laid-enters (c .before .before) in
+    let d = laid-ends (c .before .before) in
     lay (losesPiece s) (row-kept s h 256 (losesPiece s .word) (omega arith)) d (loses-are s h d (c .put-changes .ensures))
 
 laid-gains : (c : tie.After-put-changes2) → let s = sheet (by-gains c) in Laid (changes s) (c .put-changes2 .last .1 .0)
@@ -99,25 +93,19 @@ laid-hits c =
 insides-requires : tie.Need-insides-requires
 insides-requires c κs = search needs
 
-timers-requires : tie.Need-timers-requires
-timers-requires c κs = search needs
-
-sure-requires : tie.Need-sure-requires
-sure-requires c κs = search needs
+classes-of-requires : tie.Need-classes-of-requires
+classes-of-requires c κs = search needs
 
 put-from-requires : tie.Need-put-from-requires
 put-from-requires c κs = (past (c .before), refl, λ t h. getD-replicate 547 (512 + t) 0 0 (omega arith))
 
-put-exits-requires : tie.Need-put-exits-requires
-put-exits-requires c κs = (past (by-from (c .before .before)), laid-long (laid-from (c .before .before)), by-from (c .before .before) .before .before .insides .ensures)
-
-put-enters-requires : tie.Need-put-enters-requires
-put-enters-requires c κs = (past (by-exits (c .before)), laid-long (laid-exits (c .before)))
+put-ends-requires : tie.Need-put-ends-requires
+put-ends-requires c κs = (past (by-from (c .before .before)), laid-long (laid-from (c .before .before)), by-from (c .before .before) .before .insides .ensures)
 
 put-changes-requires : tie.Need-put-changes-requires
 put-changes-requires c κs =
-    let d = laid-enters (c .before) in
-    (past (by-enters (c .before)), laid-long d, laid-has 2 d tt, omega arith, omega arith)
+    let d = laid-ends (c .before) in
+    (past (by-ends (c .before)), laid-long d, laid-has 2 d tt, omega arith, omega arith)
 
 put-changes-requires-2 : tie.Need-put-changes-requires-2
 put-changes-requires-2 c κs =
@@ -125,24 +113,24 @@ put-changes-requires-2 c κs =
     (past (by-loses (c .before)), laid-long d, laid-has 3 d tt, omega arith, omega arith)
 
 put-conflicts-requires : tie.Need-put-conflicts-requires
-put-conflicts-requires c κs = (past (by-gains (c .before .before)), laid-long (laid-gains (c .before .before)), by-gains (c .before .before) .before .before .insides .ensures)
+put-conflicts-requires c κs = (past (by-gains (c .before .before)), laid-long (laid-gains (c .before .before)), by-gains (c .before .before) .before .insides .ensures)
 
 put-yielders-requires : tie.Need-put-yielders-requires
 put-yielders-requires c κs =
     let d = laid-conflicts (c .before .before) in
-    (past (by-conflicts (c .before .before)), laid-long d, by-conflicts (c .before .before) .before .before .insides .ensures, laid-has 5 d tt, laid-has 0 d tt)
+    (past (by-conflicts (c .before .before)), laid-long d, by-conflicts (c .before .before) .before .insides .ensures, laid-has 5 d tt, laid-has 0 d tt)
 
 put-delays-requires : tie.Need-put-delays-requires
-put-delays-requires c κs = (past (by-yielders (c .before)), laid-long (laid-yielders (c .before)), by-yielders (c .before) .before .timers .ensures)
+put-delays-requires c κs = (past (by-yielders (c .before)), laid-long (laid-yielders (c .before)), by-yielders (c .before) .classes-of .ensures .0)
 
 put-hits-requires : tie.Need-put-hits-requires
-put-hits-requires c κs = (past (by-delays (c .before)), laid-long (laid-delays (c .before)), by-delays (c .before) .sure .ensures)
+put-hits-requires c κs = (past (by-delays (c .before)), laid-long (laid-delays (c .before)), by-delays (c .before) .classes-of .ensures .1)
 
 array-write-plan : tie.Need-array-write-plan
 array-write-plan c = search needs
 
 mixed-requires : tie.Need-mixed-requires
-mixed-requires c κs = (past (by-hits c), by-hits c .before .timers .ensures, by-hits c .sure .ensures)
+mixed-requires c κs = (past (by-hits c), by-hits c .classes-of .ensures .0, by-hits c .classes-of .ensures .1)
 
 array-write-plan-2 : tie.Need-array-write-plan-2
 array-write-plan-2 c = search needs
@@ -160,18 +148,16 @@ returns : tie.Need-returns
 returns c =
     planned-of (sheet (by-hits (c .before .before)))
     (lay-word 546 (omega arith) (c .start .ensures)
-    (lay-word 545 (omega arith) (c .before .mixed .ensures) (lay-word 544 (omega arith) (by-hits (c .before .before) .before .timers .ensures) (laid-hits (c .before .before)))))
+    (lay-word 545 (omega arith) (c .before .mixed .ensures) (lay-word 544 (omega arith) (by-hits (c .before .before) .classes-of .ensures .0) (laid-hits (c .before .before)))))
 
 pub planned-spec : {M : Type 1} → statement M
 planned-spec =
     tie.close
     (tie.spec
     insides-requires
-    timers-requires
-    sure-requires
+    classes-of-requires
     put-from-requires
-    put-exits-requires
-    put-enters-requires
+    put-ends-requires
     put-changes-requires
     put-changes-requires-2
     put-conflicts-requires

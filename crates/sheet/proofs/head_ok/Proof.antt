@@ -6,7 +6,8 @@ use mathlib.Core.Path.{sym}
 use borrow.Author.Tests.{ltb-true, ltb-false, lt-leb}
 use Rattle.meaning.specs.Sheet.{word, nOf, kOf, tOf}
 use Rattle.meaning.specs.Check.{headOk}
-use Rattle.sheet.proofs.Laws.{allOf-fails, headOk-is}
+use Rattle.meaning.proofs.ListLaws.{allOf-fails}
+use Rattle.sheet.proofs.Laws.{headOk-is}
 use Rattle.sheet.proofs.head_ok.Statement.{statement}
 use Rattle.sheet.proofs.head_ok.Tie as tie
 

@@ -1,11 +1,10 @@
 -- `clock::deadlines::deadlines` meets its contract: the words passed are copied. Assumes nothing.
-use mathlib.Core.Path.{_≡_, refl, sym, _∙_}
+use mathlib.Core.Path.{_≡_, refl}
 use borrow.Author.Needs.{needs}
 use Prim.Native.Nat.{_-_, _≤_}
 use native.Mathlib.Omega.{arith}
 use lib.ListN.{length, take, length-set}
-use lib.Seq.{take-all}
-use Rattle.clock.proofs.ArrayLaws.{copy-turn}
+use Rattle.clock.proofs.ArrayLaws.{copy-turn, copy-done}
 use Rattle.clock.proofs.deadlines.deadlines.Statement.{statement}
 use Rattle.clock.proofs.deadlines.deadlines.Tie as tie
 
@@ -53,7 +52,7 @@ returns : tie.Need-returns Inv-loop μ-loop
 returns c =
     let l = c .before .loop in
     let a = c .before .before .args in
-    sym (take-all (l .t) (l .r) (omega arith)) ∙ l .inv .3 ∙ take-all (l .t) (a .t1) (omega arith)
+    copy-done (l .r) (a .t1) (l .t) (omega arith) (omega arith) (l .inv .3)
 
 pub deadlines-spec : {M : Type 1} → statement M
 deadlines-spec =

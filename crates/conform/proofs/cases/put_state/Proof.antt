@@ -1,11 +1,10 @@
+-- `conform::cases::put_state` meets its contract. The loop's invariant: each transition passed has taken at most 42 bytes. The measure is how many
+-- transitions are left. Assumes nothing.
 use mathlib.Core.Logic.{⊎-elim}
 use borrow.Author.Needs.{needs}
 use Prim.Native.Nat.{_+_, _*_, _≤_, _-_}
 use Rattle.conform.proofs.cases.put_state.Statement.{statement}
 use Rattle.conform.proofs.cases.put_state.Tie as tie
-
--- `conform::cases::put_state` meets its contract. The loop's invariant: each transition passed has taken at most 42 bytes. The measure is how many
--- transitions are left. Assumes nothing.
 
 abbrev Inv-loop : tie.InvT-loop
 Inv-loop line₀ from values at₀ t₀ line at t = (t ≤ 64) × (at ≤ from + 21 + 42 * t)

@@ -1,4 +1,4 @@
--- `conform::compile_case::compile` is safe and ends: the words lent lie within the arrays. Assumes nothing.
+-- `conform::compile_case::compile` meets its contract: the words lent lie within the arrays, and the table within those lent. Assumes nothing.
 use lib.ListN.{length-take}
 use native.Mathlib.Omega.{arith}
 use borrow.Author.Needs.{needs}
@@ -17,8 +17,8 @@ at-most-requires c κs = search needs
 at-most-requires-2 : tie.Need-at-most-requires-2
 at-most-requires-2 c κs = search needs
 
-array-borrow-prefix-table : tie.Need-array-borrow-prefix-table
-array-borrow-prefix-table c = search needs
+slice-relend-prefix-compile-sheet : tie.Need-slice-relend-prefix-compile-sheet
+slice-relend-prefix-compile-sheet c = search needs
 
 slice-aggregate-compile-sheet : tie.Need-slice-aggregate-compile-sheet
 slice-aggregate-compile-sheet c = simp length-take (omega arith)
@@ -32,6 +32,12 @@ slice-aggregate-compile-sheet-2 c = simp length-take (omega arith)
 compile-sheet-requires : tie.Need-compile-sheet-requires
 compile-sheet-requires c κs = search needs
 
+least-requires : tie.Need-least-requires
+least-requires c κs = search needs
+
+same-length : tie.Need-same-length
+same-length c = search needs
+
 returns : tie.Need-returns
 returns c = search needs
 
@@ -43,9 +49,11 @@ compile-spec =
     number-requires-2
     at-most-requires
     at-most-requires-2
-    array-borrow-prefix-table
+    slice-relend-prefix-compile-sheet
     slice-aggregate-compile-sheet
     array-borrow-prefix-work
     slice-aggregate-compile-sheet-2
     compile-sheet-requires
+    least-requires
+    same-length
     returns)

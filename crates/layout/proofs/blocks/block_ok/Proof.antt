@@ -11,7 +11,8 @@ use lib.ListN.{length}
 use Rattle.sets.specs.Sets.{minus, size}
 use Rattle.sets.proofs.Tests.{is-false, of-false}
 use Rattle.meaning.specs.Table.{wordIn, bIn, lengthIn, maskIn, timersIn, cellsIn, blockOk}
-use Rattle.layout.proofs.Places.{head-of, block-room, cells-small}
+use Rattle.meaning.proofs.Bounds.{cells-le}
+use Rattle.layout.proofs.Places.{head-of, block-room}
 use Rattle.layout.proofs.BlockTests.{maskTest, timersTest, block-of, block-is, timers-test, next-in-part}
 use Rattle.layout.proofs.blocks.block_ok.Statement.{statement}
 use Rattle.layout.proofs.blocks.block_ok.Tie as tie
@@ -65,7 +66,7 @@ count-is c =
     ∙ ap₂ (λ (x k : ℕ). 2 ^ (x + k)) (size-is (c .before .before .before .before .before .before .before)) (c .before .event-count .ensures)
 
 count-small : (c : tie.After-cell-count) → c .cell-count .result ≤ 4096
-count-small c = rw (c .cell-count .ensures) (cells-small _ _ (small-size (c .before .before)) (small-events (c .before)))
+count-small c = rw (c .cell-count .ensures) (cells-le _ _ (small-size (c .before .before)) (small-events (c .before)))
 
 offset-requires : tie.Need-offset-requires
 offset-requires c κs = search needs

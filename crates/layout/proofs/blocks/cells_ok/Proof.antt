@@ -6,8 +6,8 @@ use mathlib.Core.Path.{_≡_, refl, ap, _∙_}
 use native.Mathlib.Nat.{le-antisymm}
 use Prim.Native.Nat.{ℕ, _-_, _≤_, zero-le}
 use Rattle.sets.specs.Sets.{every}
+use Rattle.sets.proofs.Loops.{every-and}
 use Rattle.layout.specs.Parts.{nextOk}
-use Rattle.layout.proofs.BlockTests.{every-and}
 use Rattle.layout.proofs.blocks.cells_ok.Statement.{statement}
 use Rattle.layout.proofs.blocks.cells_ok.Tie as tie
 

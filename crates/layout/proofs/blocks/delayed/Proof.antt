@@ -1,6 +1,6 @@
 -- `layout::blocks::delayed` meets its contract: the transitions with a delay among those passed are found.
 -- The measure is what is left of the count. Assumes nothing.
-use mathlib.Core.Path.{_≡_, refl, ap, _∙_}
+use mathlib.Core.Path.{_≡_, refl, _∙_}
 use mathlib.Core.Bool.{Bool}
 use mathlib.Core.Logic.{⊎-elim}
 use borrow.Author.Needs.{needs}
@@ -9,8 +9,8 @@ use Prim.Native.Nat.{ℕ, _-_, _≤_}
 use native.Mathlib.Nat.{le-antisymm}
 use native.Mathlib.Omega.{arith}
 use lib.Dec.{ltb}
-use Rattle.sets.specs.Sets.{union, setOf}
-use Rattle.sets.proofs.Membership.{setOf-add, setOf-skip}
+use Rattle.sets.specs.Sets.{setOf}
+use Rattle.sets.proofs.Loops.{setOf-none, setOf-added, setOf-passed, setOf-width}
 use Rattle.meaning.specs.Table.{delayIn}
 use Rattle.layout.specs.Parts.{delayedIn}
 use Rattle.layout.proofs.Places.{head-of}
@@ -27,8 +27,7 @@ transition-count-requires : tie.Need-transition-count-requires Inv-loop μ-loop
 transition-count-requires c κs = search needs
 
 loop-holds : tie.Need-loop-holds Inv-loop μ-loop
-unfolding setOf
-loop-holds c = (omega arith, refl)
+loop-holds c = (omega arith, setOf-none _)
 
 timer-delay-requires : tie.Need-timer-delay-requires Inv-loop μ-loop
 timer-delay-requires c κs = search needs
@@ -49,10 +48,8 @@ loop-again c =
     let p : ℕ → Bool = λ i. ltb 0 (delayIn w i) in
     let e = c .before .timer-delay .ensures in (
       omega arith,
-      ⊎-elim
-          (λ v. v .2 ∙ ap (λ (x : ℕ). union x (v .1 .result)) (l .inv .1) ∙ ap (union (setOf (l .t) p)) (v .1 .ensures) ∙ setOf-add (l .t) p (lt-ltb 0 (delayIn w (l .t)) (omega arith)))
-          (λ v. v .1 ∙ l .inv .1 ∙ setOf-skip (l .t) p (le-ltb 0 (delayIn w (l .t)) (omega arith)))
-          (c .if1 .came),
+      ⊎-elim (λ v. setOf-added p (l .t) (l .inv .1) (v .1 .ensures) refl (lt-ltb 0 (delayIn w (l .t)) (omega arith)) (v .2))
+          (λ v. setOf-passed p (l .t) (l .inv .1) refl (le-ltb 0 (delayIn w (l .t)) (omega arith)) (v .1)) (c .if1 .came),
     )
 
 returns : tie.Need-returns Inv-loop μ-loop
@@ -60,8 +57,7 @@ unfolding delayedIn
 returns c =
     let l = c .before .loop in
     let w = c .before .before .before .before .args .table .now in
-    l .inv .1
-    ∙ ap (λ (n : ℕ). setOf n (λ i. ltb 0 (delayIn w i))) (le-antisymm (l .inv .0) (c .loop-test .left) ∙ c .before .before .transition-count .ensures)
+    setOf-width (λ i. ltb 0 (delayIn w i)) (l .inv .1) (le-antisymm (l .inv .0) (c .loop-test .left) ∙ c .before .before .transition-count .ensures)
 
 pub delayed-spec : {M : Type 1} → statement M
 delayed-spec =

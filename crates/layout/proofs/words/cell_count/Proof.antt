@@ -1,6 +1,7 @@
 -- `layout::words::cell_count` meets its contract. Assumes nothing.
+use native.Mathlib.Omega.{arith}
 use borrow.Author.Needs.{needs}
-use Rattle.layout.proofs.Places.{cells-shl}
+use Rattle.sets.proofs.Membership.{shl-shl}
 use Rattle.layout.proofs.words.cell_count.Statement.{statement}
 use Rattle.layout.proofs.words.cell_count.Tie as tie
 
@@ -11,7 +12,7 @@ shl-result-2 : tie.Need-shl-result-2
 shl-result-2 c = search needs
 
 returns : tie.Need-returns
-returns c = cells-shl (c .args .a) (c .args .k) (c .pre .0) (c .pre .1)
+returns c = shl-shl 64 (c .args .a) (c .args .k) (omega arith)
 
 pub cell-count-spec : {M : Type 1} → statement M
 cell-count-spec = tie.close (tie.spec shl-result shl-result-2 returns)

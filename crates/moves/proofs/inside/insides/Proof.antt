@@ -6,8 +6,7 @@ use native.Mathlib.Omega.{arith}
 use borrow.Author.Needs.{needs}
 use lib.ListN.{length, length-set}
 use Rattle.meaning.specs.Sheet.{nOf}
-use Rattle.meaning.proofs.SheetLaws.{sound}
-use Rattle.meaning.proofs.Containment.{parent-n}
+use Rattle.meaning.proofs.SheetLaws.{parent-n, sound, tree}
 use Rattle.sheet.proofs.Past.{head-read, mode-small, row-read}
 use Rattle.moves.proofs.InsideLaws.{Added, added-start, added-turn, added-end}
 use Rattle.moves.proofs.inside.insides.Statement.{statement}
@@ -26,7 +25,7 @@ turned c = omega arith
 turned-parent : (c : tie.After-parent Inv-loop μ-loop) → c .parent .result < 32
 turned-parent c =
     let h = c .before .before .before .before .before .before .pre in
-    rw (c .parent .ensures) (mode-small _ h _ (parent-n _ (sound _ h) _ (turned (c .before))))
+    rw (c .parent .ensures) (mode-small _ h _ (parent-n _ (tree _ (sound _ h)) _ (turned (c .before))))
 
 alone-requires : tie.Need-alone-requires Inv-loop μ-loop
 alone-requires c κs = search needs

@@ -4,8 +4,8 @@ use mathlib.Core.Path.{_≡_, _∙_}
 use Prim.Native.Nat.{_<_}
 use native.Mathlib.Omega.{arith}
 use Rattle.meaning.specs.Sheet.{nOf}
-use Rattle.meaning.proofs.SheetLaws.{sound}
-use Rattle.meaning.proofs.Containment.{Within, here, parent-lt, parent-n, contains-e}
+use Rattle.meaning.proofs.SheetLaws.{parent-n, sound, tree}
+use Rattle.meaning.proofs.Containment.{Within, here, contains-e}
 use Rattle.sheet.proofs.Past.{mode-small, row-read}
 use Rattle.moves.proofs.TransitionLaws.{pathOf, path-start, path-turn, path-end}
 use Rattle.moves.proofs.transition.path.Statement.{statement}
@@ -24,7 +24,7 @@ loop-holds : tie.Need-loop-holds Inv-loop μ-loop
 loop-holds c =
     let p = c .before .before .pre in
     let sd = sound _ (p .0) in
-    (p .1, contains-e _ sd _ _ (p .2), here, c .single .ensures ∙ path-start _ sd _ (p .1))
+    (p .1, contains-e _ (tree _ sd) _ _ (p .2), here, c .single .ensures ∙ path-start _ sd _ (p .1))
 
 parent-requires : tie.Need-parent-requires Inv-loop μ-loop
 parent-requires c κs = row-read _ (c .before .before .before .before .pre .0) _ (c .before .loop .inv .0)
@@ -32,13 +32,13 @@ parent-requires c κs = row-read _ (c .before .before .before .before .pre .0) _
 single-requires-2 : tie.Need-single-requires-2 Inv-loop μ-loop
 single-requires-2 c κs =
     let h = c .before .before .before .before .before .pre .0 in
-    rw (c .parent .ensures) (mode-small _ h _ (parent-n _ (sound _ h) _ (c .before .before .loop .inv .0)))
+    rw (c .parent .ensures) (mode-small _ h _ (parent-n _ (tree _ (sound _ h)) _ (c .before .before .loop .inv .0)))
 
 loop-less : tie.Need-loop-less Inv-loop μ-loop
 loop-less c =
     let l = c .before .before .before .loop in
     let sd = sound _ (c .before .before .before .before .before .before .pre .0) in
-    omega (arith, c .before .parent .ensures, parent-lt _ sd (l .x) (omega arith) (l .inv .0))
+    omega (arith, c .before .parent .ensures, tree _ sd .lower (l .x) (omega arith) (l .inv .0))
 
 loop-again : tie.Need-loop-again Inv-loop μ-loop
 loop-again c =

@@ -12,7 +12,7 @@ use Rattle.meaning.specs.Reaction.{conflict}
 use Rattle.meaning.proofs.SheetLaws.{sound, t-le}
 use Rattle.reaction.specs.Plan.{conflictsOf}
 use Rattle.sheet.proofs.Past.{head-read}
-use Rattle.planner.proofs.SetLoop.{setOf-none, setOf-added, setOf-passed, setOf-width}
+use Rattle.sets.proofs.Loops.{setOf-none, setOf-added, setOf-passed, setOf-width}
 use Rattle.planner.proofs.conflicts.conflicts_of.Statement.{statement}
 use Rattle.planner.proofs.conflicts.conflicts_of.Tie as tie
 

@@ -55,8 +55,8 @@ single-requires c κs = omega (arith, mode (c .before))
 minus-requires : tie.Need-minus-requires Inv-loop μ-loop
 minus-requires c κs = search needs
 
-sources-in-requires : tie.Need-sources-in-requires Inv-loop μ-loop
-sources-in-requires c κs =
+from-set-requires : tie.Need-from-set-requires Inv-loop μ-loop
+from-set-requires c κs =
     let b = c .before .before .before .before .before .before .before .before .before in
     let l = c .before .before .before .before .before .before .loop in
     yielders-from (b .args .sheet .now) (b .args .plan .now) (l .t) (l .inv .1) (omega arith) (small (c .before .before .before .before .before)) (b .pre .3)
@@ -94,7 +94,7 @@ loop-again c =
     let k : l .t < tOf s = omega arith in
     let row = yielders-conflicts s p (l .t) (l .inv .1) (omega arith) (small (c .before .before .before .before .before .before .before)) (b .pre .4) k in
     let word =
-    yielders-word s (b .pre .0) (b .args .inside .now) (b .pre .2) (l .t) k (c .before .before .before .before .before .before .source .ensures) (c .before .before .before .before .single .ensures) (c .before .before .before .minus .ensures) (c .before .sources-in .ensures) row in
+    yielders-word s (b .pre .0) (b .args .inside .now) (b .pre .2) (l .t) k (c .before .before .before .before .before .before .source .ensures) (c .before .before .before .before .single .ensures) (c .before .before .before .minus .ensures) (c .before .from-set .ensures) row in
     (omega arith, part-turn p 192 (yieldersOf s) (l .t) (omega (arith, small (c .before .before .before .before .before .before .before))) (l .inv .1) word)
 
 returns : tie.Need-returns Inv-loop μ-loop
@@ -115,7 +115,7 @@ put-yielders-spec =
     element-copy-out-minus
     single-requires
     minus-requires
-    sources-in-requires
+    from-set-requires
     add-plan
     mul-plan
     element-copy-out-plan

@@ -6,8 +6,7 @@ use mathlib.Core.Logic.{⊎-elim}
 use Rattle.sets.specs.Sets.{has, minus, single, lowest, those}
 use Rattle.sets.proofs.Tests.{is-true, of-true}
 use Rattle.sets.proofs.Members.{Turn, turn}
-use Rattle.sets.proofs.Those.{Subset, subset-turn, those-start, those-done}
-use Rattle.planner.proofs.SetLoop.{those-added, those-passed}
+use Rattle.sets.proofs.Those.{Subset, subset-turn, those-start, those-done, those-added, those-passed}
 use Rattle.planner.proofs.HitLaws.{hitBy, sure-lt, hits-is}
 use Rattle.planner.proofs.hits.hits_of.Statement.{statement}
 use Rattle.planner.proofs.hits.hits_of.Tie as tie

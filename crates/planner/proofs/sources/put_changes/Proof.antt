@@ -36,8 +36,8 @@ add-mode-set c = omega (arith, small (c .before))
 mode-set-requires : tie.Need-mode-set-requires Inv-loop μ-loop
 mode-set-requires c κs = omega (arith, small (c .before))
 
-sources-in-requires : tie.Need-sources-in-requires Inv-loop μ-loop
-sources-in-requires c κs =
+from-set-requires : tie.Need-from-set-requires Inv-loop μ-loop
+from-set-requires c κs =
     let b = c .before .before .before .before .before .before .before in
     let l = c .before .before .before .before .loop in
     let k = small (c .before .before .before) in
@@ -65,8 +65,8 @@ loop-again c =
     let k = small (c .before .before .before .before) in
     let s = b .args .sheet .now in
     let p = b .args .plan .now in
-    let word : c .sources-in .result ≡ changeOf s p (b .args .sets) (l .t) =
-    change-word s p (b .args .sets) (b .args .at) (l .t) (l .inv .1) (omega arith) (omega arith) (c .before .before .mode-set .ensures) (c .sources-in .ensures) in
+    let word : c .from-set .result ≡ changeOf s p (b .args .sets) (l .t) =
+    change-word s p (b .args .sets) (b .args .at) (l .t) (l .inv .1) (omega arith) (omega arith) (c .before .before .mode-set .ensures) (c .from-set .ensures) in
     (omega arith, part-turn p (b .args .at) (changeOf s p (b .args .sets)) (l .t) (omega arith) (l .inv .1) word)
 
 returns : tie.Need-returns Inv-loop μ-loop
@@ -85,7 +85,7 @@ put-changes-spec =
     loop-holds
     add-mode-set
     mode-set-requires
-    sources-in-requires
+    from-set-requires
     add-plan
     mul-plan
     element-write-plan

@@ -4,27 +4,23 @@ use mathlib.Core.Path.{_≡_, refl, sym, _∙_}
 use Prim.Native.Nat.{ℕ, _+_, _^_, _<_}
 use native.Mathlib.Omega.{arith}
 use lib.ListN.{getD}
-use lib.Pow.{pow-pos}
 use borrow.Author.Needs.{needs}
 use Rattle.sets.specs.Sets.{union, minus, single, members, lowest}
-use Rattle.sets.proofs.Membership.{union-lt}
 use Rattle.sets.proofs.Members.{Turn, turn, fold, fold-turn, fold-done}
-use Rattle.meaning.specs.Sheet.{tOf}
-use Rattle.reaction.proofs.PlanLaws.{from-lt, from-over}
+use Rattle.reaction.proofs.PlanLaws.{from-over}
 use Rattle.reaction.proofs.plan.from_set.Statement.{statement}
 use Rattle.reaction.proofs.plan.from_set.Tie as tie
 
 abbrev Inv-loop : tie.InvT-loop
 Inv-loop sheet plan set r₀ rest₀ r rest =
     (rest < 2 ^ 32)
-    × (r < 2 ^ tOf sheet)
     × (fold (λ a m. union a (getD plan (512 + m) 0)) r (members 32 rest) ≡ fold (λ a m. union a (getD plan (512 + m) 0)) 0 (members 32 set))
 
 abbrev μ-loop : tie.MeasureT-loop
 μ-loop sheet plan set r₀ rest₀ r rest = rest
 
 loop-holds : tie.Need-loop-holds Inv-loop μ-loop
-loop-holds c = (c .before .fits .set .fits, pow-pos _, refl)
+loop-holds c = (c .before .fits .set .fits, refl)
 
 known : (c : tie.After-lowest Inv-loop μ-loop) {r : ℕ} → r ≡ minus (c .before .before .loop .rest) (single (lowest 32 (c .before .before .loop .rest)))
     → Turn 32 (c .before .before .loop .rest) (c .lowest .result) r
@@ -52,14 +48,15 @@ loop-again : tie.Need-loop-again Inv-loop μ-loop
 loop-again c =
     let u = known (c .before .before) (c .without-lowest .ensures) in
     let l = c .before .before .before .before .loop in
-    let before = c .before .before .before .before .before .before in
-    (u .fits, union-lt (tOf (before .args .sheet .now)) (l .inv .1) (from-lt _ _ (before .pre) _ (u .lowest .small)), fold-turn _ _ u ∙ l .inv .2)
+    (u .fits, fold-turn _ _ u ∙ l .inv .1)
 
 returns : tie.Need-returns Inv-loop μ-loop
 returns c =
     let l = c .before .loop in
     let before = c .before .before .before in
-    from-over _ _ (before .pre) _ _ (before .fits .set .fits) (l .inv .1) (sym (fold-done _ _ 32 (l .rest) (c .loop-test .left)) ∙ l .inv .2)
+    sym (fold-done _ _ 32 (l .rest) (c .loop-test .left))
+    ∙ l .inv .1
+    ∙ from-over (before .args .sheet .now) (before .args .plan .now) (before .pre) (before .args .set) (before .fits .set .fits)
 
 pub from-set-spec : {M : Type 1} → statement M
 from-set-spec =

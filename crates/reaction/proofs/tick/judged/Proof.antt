@@ -1,6 +1,6 @@
 -- `reaction::tick::judged` meets its contract. The loop's invariant: what is found is what is to be found less what is left.
 -- Assumes nothing.
-use mathlib.Core.Path.{_≡_, refl, sym, ap₂, _∙_}
+use mathlib.Core.Path.{_≡_, refl, sym, _∙_}
 use mathlib.Core.Logic.{⊎-elim}
 use mathlib.Core.Bool.{Bool}
 use mathlib.Core.List.{List}
@@ -9,10 +9,10 @@ use native.Mathlib.Omega.{arith}
 use lib.Dec.{ltb}
 use borrow.Author.Needs.{needs}
 use borrow.Author.Tests.{lt-ltb, le-ltb}
-use Rattle.sets.specs.Sets.{has, union, minus, single, lowest, those}
+use Rattle.sets.specs.Sets.{has, minus, single, lowest, those}
 use Rattle.sets.proofs.Tests.{is-true, of-true}
 use Rattle.sets.proofs.Members.{Turn, turn}
-use Rattle.sets.proofs.Those.{Subset, subset-turn, those-start, those-add, those-skip, those-done}
+use Rattle.sets.proofs.Those.{Subset, subset-turn, those-start, those-added, those-passed, those-done}
 use Rattle.reaction.specs.Facts.{alternativeBy}
 use Rattle.reaction.proofs.tick.judged.Statement.{statement}
 use Rattle.reaction.proofs.tick.judged.Tie as tie
@@ -66,8 +66,8 @@ loop-again c =
       u .fits,
       subset-turn (a .set) u (l .inv .1),
       ⊎-elim
-          (λ w. w .2 ∙ ap₂ union (l .inv .2) (w .1 .ensures) ∙ those-add (a .set) p u (l .inv .1) (lt-ltb 0 n (omega (arith, w .0 .taken))))
-          (λ w. w .1 ∙ l .inv .2 ∙ those-skip (a .set) p u (le-ltb 0 n (omega (arith, w .0 .left))))
+          (λ w. those-added (a .set) p u (l .inv .1) (l .inv .2) (w .1 .ensures) refl (lt-ltb 0 n (omega (arith, w .0 .taken))) (w .2))
+          (λ w. those-passed (a .set) p u (l .inv .2) refl (le-ltb 0 n (omega (arith, w .0 .left))) (w .1))
           (c .before .if1 .came),
     )
 

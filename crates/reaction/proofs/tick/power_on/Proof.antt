@@ -10,7 +10,7 @@ mode-set-requires : tie.Need-mode-set-requires
 mode-set-requires c κs = search needs
 
 from-set-requires : tie.Need-from-set-requires
-from-set-requires c κs = search needs
+from-set-requires c κs = c .before .before .pre .1 .fromAt
 
 returns : tie.Need-returns
 returns c =

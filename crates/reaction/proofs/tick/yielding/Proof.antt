@@ -6,9 +6,10 @@ use lib.ListN.{getD}
 use borrow.Author.Needs.{needs}
 use Rattle.sets.specs.Sets.{union, minus, single, members, lowest}
 use Rattle.sets.proofs.Members.{Turn, turn, fold, fold-turn, fold-done}
+use Rattle.sets.proofs.Widths.{union-over}
 use Rattle.meaning.specs.Sheet.{tOf}
 use Rattle.reaction.specs.Plan.{yieldersOf}
-use Rattle.reaction.proofs.RoundLaws.{union-over, yielders-small}
+use Rattle.reaction.proofs.RoundLaws.{yielders-small}
 use Rattle.reaction.proofs.tick.yielding.Statement.{statement}
 use Rattle.reaction.proofs.tick.yielding.Tie as tie
 

@@ -7,7 +7,8 @@ use Prim.Native.Nat.{_<_}
 use lib.Dec.{T}
 use Rattle.meaning.specs.Sheet.{nOf, parent, strictlyContains}
 use Rattle.meaning.specs.Hierarchy.{childHolding}
-use Rattle.sheet.proofs.Climb.{parent-n, strictly-parent, child-step, child-end, strictly-step}
+use Rattle.meaning.proofs.SheetLaws.{parent-n}
+use Rattle.sheet.proofs.Climb.{rooted-tree, strictly-parent, child-step, child-end, strictly-step}
 use Rattle.sheet.proofs.hierarchy.child_holding.Statement.{statement}
 use Rattle.sheet.proofs.hierarchy.child_holding.Tie as tie
 
@@ -26,32 +27,32 @@ loop-holds c = let q = c .before .before .pre in (q .1, c .parent .ensures, q .2
 parent-requires-2 : tie.Need-parent-requires-2 Inv-loop μ-loop
 parent-requires-2 c κs =
     let l = c .before .loop in
-    record { head = c .before .before .before .before .pre .0 .head; mode = rw (l .inv .1) (parent-n (c .before .before .before .before .pre .0) (l .x) (l .inv .0)) }
+    record { head = c .before .before .before .before .pre .0 .head; mode = rw (l .inv .1) (parent-n _ (rooted-tree (c .before .before .before .before .pre .0)) (l .x) (l .inv .0)) }
 
 loop-less : tie.Need-loop-less Inv-loop μ-loop
 loop-less c =
     let l = c .before .before .loop in
-    let tree = c .before .before .before .before .before .pre .0 in
-    omega (arith, strictly-parent tree _ (l .x) (l .inv .0) (l .inv .2))
+    let ro = rooted-tree (c .before .before .before .before .before .pre .0) in
+    omega (arith, strictly-parent ro _ (l .x) (l .inv .0) (l .inv .2))
 
 loop-again : tie.Need-loop-again Inv-loop μ-loop
 loop-again c =
     let l = c .before .before .loop in
-    let tree = c .before .before .before .before .before .pre .0 in
+    let ro = rooted-tree (c .before .before .before .before .before .pre .0) in
     let e = l .inv .1 in
     let k = rw e at (c .before .loop-test .taken) in
     rw e (
-      parent-n tree (l .x) (l .inv .0),
+      parent-n _ ro (l .x) (l .inv .0),
       rw e at (c .parent2 .ensures),
-      strictly-step tree _ (l .x) (l .inv .0) (l .inv .2) k,
-      l .inv .3 ∙ child-step tree _ (l .x) k (l .inv .0),
+      strictly-step ro _ (l .x) (l .inv .0) (l .inv .2) k,
+      l .inv .3 ∙ child-step ro _ (l .x) k (l .inv .0),
     )
 
 returns : tie.Need-returns Inv-loop μ-loop
 returns c =
     let l = c .before .loop in
     let q = c .before .before .before .before .pre in
-    (sym (l .inv .3 ∙ child-end (q .0) _ (l .x) (l .inv .0) (l .inv .2) (rw (l .inv .1) at (c .loop-test .left))), l .inv .0)
+    (sym (l .inv .3 ∙ child-end (rooted-tree (q .0)) _ (l .x) (l .inv .0) (l .inv .2) (rw (l .inv .1) at (c .loop-test .left))), l .inv .0)
 
 pub child-holding-spec : {M : Type 1} → statement M
 child-holding-spec =

@@ -5,7 +5,8 @@ use borrow.Author.Needs.{needs}
 use mathlib.Core.Path.{_≡_, refl, sym, _∙_}
 use Prim.Native.Nat.{_<_}
 use Rattle.meaning.specs.Sheet.{nOf, contains}
-use Rattle.sheet.proofs.Climb.{parent-lt, parent-n, contains-step, contains-end}
+use Rattle.meaning.proofs.SheetLaws.{parent-n}
+use Rattle.sheet.proofs.Climb.{rooted-tree, contains-step, contains-end}
 use Rattle.sheet.proofs.hierarchy.contains.Statement.{statement}
 use Rattle.sheet.proofs.hierarchy.contains.Tie as tie
 
@@ -24,18 +25,18 @@ parent-requires c κs = search needs
 loop-less : tie.Need-loop-less Inv-loop μ-loop
 loop-less c =
     let l = c .before .before .loop in
-    omega (arith, c .parent .ensures, parent-lt (c .before .before .before .before .pre .0) (l .x) (omega arith) (l .inv .0))
+    omega (arith, c .parent .ensures, rooted-tree (c .before .before .before .before .pre .0) .lower (l .x) (omega arith) (l .inv .0))
 
 loop-again : tie.Need-loop-again Inv-loop μ-loop
 loop-again c =
     let l = c .before .before .loop in
-    let tree = c .before .before .before .before .pre .0 in
-    rw (c .parent .ensures) (parent-n tree (l .x) (l .inv .0), l .inv .1 ∙ contains-step tree _ (l .x) (c .before .loop-test .taken) (l .inv .0))
+    let ro = rooted-tree (c .before .before .before .before .pre .0) in
+    rw (c .parent .ensures) (parent-n _ ro (l .x) (l .inv .0), l .inv .1 ∙ contains-step ro _ (l .x) (c .before .loop-test .taken) (l .inv .0))
 
 returns : tie.Need-returns Inv-loop μ-loop
 returns c =
     let l = c .before .loop in
-    sym (l .inv .1 ∙ contains-end (c .before .before .before .pre .0) _ (l .x) (c .loop-test .left) (l .inv .0))
+    sym (l .inv .1 ∙ contains-end (rooted-tree (c .before .before .before .pre .0)) _ (l .x) (c .loop-test .left) (l .inv .0))
 
 pub contains-spec : {M : Type 1} → statement M
 contains-spec =

@@ -5,7 +5,8 @@ use borrow.Author.Needs.{needs}
 use mathlib.Core.Path.{_≡_, sym, _∙_}
 use Prim.Native.Nat.{_<_}
 use Rattle.meaning.specs.Sheet.{nOf, meetingFrom, meetingOf}
-use Rattle.sheet.proofs.Climb.{parent-lt, parent-n, meeting-start, meeting-step, meeting-found, meeting-none}
+use Rattle.meaning.proofs.SheetLaws.{parent-n}
+use Rattle.sheet.proofs.Climb.{rooted-tree, meeting-start, meeting-step, meeting-found, meeting-none}
 use Rattle.sets.proofs.Loops.{passed, failed}
 use Rattle.sheet.proofs.hierarchy.meeting_of.Statement.{statement}
 use Rattle.sheet.proofs.hierarchy.meeting_of.Tie as tie
@@ -22,7 +23,8 @@ parent-requires c κs = search needs
 loop-holds : tie.Need-loop-holds Inv-loop μ-loop
 loop-holds c =
     let q = c .before .before .pre in
-    rw (c .parent .ensures) (parent-n (q .0) _ (q .1), meeting-start (q .0) _ _ (q .1))
+    let ro = rooted-tree (q .0) in
+    rw (c .parent .ensures) (parent-n _ ro _ (q .1), meeting-start ro _ _ (q .1))
 
 strictly-contains-requires : tie.Need-strictly-contains-requires Inv-loop μ-loop
 strictly-contains-requires c κs = search needs
@@ -33,25 +35,25 @@ parent-requires-2 c κs = search needs
 loop-less : tie.Need-loop-less Inv-loop μ-loop
 loop-less c =
     let l = c .before .before .before .before .loop in
-    omega (arith, c .parent2 .ensures, parent-lt (c .before .before .before .before .before .before .before .pre .0) (l .p) (c .before .before .before .loop-test .taken) (l .inv .0))
+    omega (arith, c .parent2 .ensures, rooted-tree (c .before .before .before .before .before .before .before .pre .0) .lower (l .p) (c .before .before .before .loop-test .taken) (l .inv .0))
 
 loop-again : tie.Need-loop-again Inv-loop μ-loop
 loop-again c =
     let l = c .before .before .before .before .loop in
-    let tree = c .before .before .before .before .before .before .before .pre .0 in
+    let ro = rooted-tree (c .before .before .before .before .before .before .before .pre .0) in
     let not-yet = failed (c .before .before .strictly-contains .ensures) (c .before .if1 .taken) in
-    rw (c .parent2 .ensures) (parent-n tree (l .p) (l .inv .0), l .inv .1 ∙ meeting-step tree (l .p) _ (c .before .before .before .loop-test .taken) (l .inv .0) not-yet)
+    rw (c .parent2 .ensures) (parent-n _ ro (l .p) (l .inv .0), l .inv .1 ∙ meeting-step ro (l .p) _ (c .before .before .before .loop-test .taken) (l .inv .0) not-yet)
 
 returns : tie.Need-returns Inv-loop μ-loop
 returns c =
     let l = c .before .before .before .loop in
-    let tree = c .before .before .before .before .before .before .pre .0 in
-    (sym (l .inv .1 ∙ meeting-found tree (l .p) _ (passed (c .before .strictly-contains .ensures) (c .if1 .left))), l .inv .0)
+    let ro = rooted-tree (c .before .before .before .before .before .before .pre .0) in
+    (sym (l .inv .1 ∙ meeting-found ro (l .p) _ (passed (c .before .strictly-contains .ensures) (c .if1 .left))), l .inv .0)
 
 returns-2 : tie.Need-returns-2 Inv-loop μ-loop
 returns-2 c =
     let l = c .before .loop in
-    (sym (l .inv .1 ∙ meeting-none (c .before .before .before .before .pre .0) (l .p) _ (c .loop-test .left)), l .inv .0)
+    (sym (l .inv .1 ∙ meeting-none (rooted-tree (c .before .before .before .before .pre .0)) (l .p) _ (c .loop-test .left)), l .inv .0)
 
 pub meeting-of-spec : {M : Type 1} → statement M
 meeting-of-spec =

@@ -6,8 +6,8 @@ use mathlib.Core.Bool.{and-true}
 use borrow.Author.Tests.{le-leb, lt-leb, eq-eqb, ne-eqb, not-false}
 use Rattle.meaning.specs.Lists.{allOf}
 use Rattle.meaning.specs.Check.{modeOk}
-use Rattle.sheet.proofs.Laws.{allOf-fails}
 use Rattle.sets.proofs.Loops.{failed}
+use Rattle.meaning.proofs.ListLaws.{allOf-fails}
 use Rattle.sheet.proofs.modes.mode_ok.Statement.{statement}
 use Rattle.sheet.proofs.modes.mode_ok.Tie as tie
 

@@ -53,9 +53,9 @@ returns c =
     let check = c .before .before .before in
     let a = entry check .args in
     answered (a .sheet .now) (a .inputs .now) (a .out .now) (stateOf (a .state)) _
-    (c .stops .ensures (a .out .now)
+    (c .stops .ensures .0 (a .out .now)
     ∙ run-bad-sheet (a .sheet .now) (a .inputs .now) (a .out .now) (stateOf (a .state)) _ (check .check .ensures)
-    (λ e. c .before .if1 .taken (c .before .before .number .ensures ∙ e)))
+    (λ e. c .before .if1 .taken (c .before .before .number .ensures ∙ e))) (omega (arith, c .stops .ensures .1))
 
 planned-requires : tie.Need-planned-requires
 planned-requires c κs = past c
@@ -74,8 +74,8 @@ returns-2 c =
     let ok = c .before .before in
     let a = entry (on (ok .before) .before .before) .args in
     answered (a .sheet .now) (a .inputs .now) (a .out .now) (stateOf (a .state)) _
-    (c .stops2 .ensures (a .out .now)
-    ∙ run-bad-state (a .sheet .now) (a .inputs .now) (a .out .now) (stateOf (a .state)) (past (on (ok .before))) (sym (ok .state-ok .ensures) ∙ not-true _ (c .before .if2 .taken)))
+    (c .stops2 .ensures .0 (a .out .now)
+    ∙ run-bad-state (a .sheet .now) (a .inputs .now) (a .out .now) (stateOf (a .state)) (past (on (ok .before))) (sym (ok .state-ok .ensures) ∙ not-true _ (c .before .if2 .taken))) (omega (arith, c .stops2 .ensures .1))
 
 stops-requires-3 : tie.Need-stops-requires-3
 stops-requires-3 c κs = search needs
@@ -86,8 +86,8 @@ returns-3 c =
     let tested = sound .before .before in
     let a = entry (on tested .before .before) .args in
     answered (a .sheet .now) (a .inputs .now) (a .out .now) (stateOf (a .state)) _
-    (c .stops3 .ensures (a .out .now)
-    ∙ run-short (a .sheet .now) (a .inputs .now) (a .out .now) (stateOf (a .state)) (past (on tested)) (admitted sound) (c .before .if3 .taken))
+    (c .stops3 .ensures .0 (a .out .now)
+    ∙ run-short (a .sheet .now) (a .inputs .now) (a .out .now) (stateOf (a .state)) (past (on tested)) (admitted sound) (c .before .if3 .taken)) (omega (arith, c .stops3 .ensures .1))
 
 ticks-requires : tie.Need-ticks-requires
 ticks-requires c κs =
@@ -104,8 +104,8 @@ returns-4 c =
     let tested = sound .before .before in
     let a = entry (on tested .before .before) .args in
     answered (a .sheet .now) (a .inputs .now) (a .out .now) (stateOf (a .state)) _
-    (c .before .before .ticks .ensures
-    ∙ run-ticks (a .sheet .now) (a .inputs .now) (a .out .now) (stateOf (a .state)) (past (on tested)) (admitted sound) (omega (arith, c .before .before .before .before .before .before .if3 .left)))
+    (c .before .before .ticks .ensures .0
+    ∙ run-ticks (a .sheet .now) (a .inputs .now) (a .out .now) (stateOf (a .state)) (past (on tested)) (admitted sound) (omega (arith, c .before .before .before .before .before .before .if3 .left))) (c .before .before .ticks .ensures .1)
 
 pub run-spec : {M : Type 1} → statement M
 run-spec =

@@ -46,7 +46,7 @@ deadlines-requires : tie.Need-deadlines-requires Inv-loop μ-loop
 deadlines-requires c κs = search needs
 
 from-set-requires : tie.Need-from-set-requires Inv-loop μ-loop
-from-set-requires c κs = c .before .before .before .before .before .before .before .pre .1
+from-set-requires c κs = c .before .before .before .before .before .before .before .pre .1 .fromAt
 
 loop-holds : tie.Need-loop-holds Inv-loop μ-loop
 loop-holds c =
@@ -94,11 +94,13 @@ same-length c = search needs
 returns : tie.Need-returns Inv-loop μ-loop
 returns c =
     let at = c .before .before .before .before .before in
-    let input = getD (entry at .args .inputs .now) (at .loop .i) 0 in
-    c .ended .ensures (at .loop .out)
-    ∙ kept-foreign _ _ _ (sheet-sound at) _ _ _ _ _ _ _ (at .loop .inv .0) _ (entry at .pre .1) (c .before .before .before .before .loop-test .taken)
-    (λ e. c .before .before .if1 .taken (ap (λ (k : ℕ). input / 2 ^ k) (at .before .before .before .before .event-count .ensures) ∙ e))
-    ∙ from at
+    let input = getD (entry at .args .inputs .now) (at .loop .i) 0 in (
+      c .ended .ensures .0 (at .loop .out)
+          ∙ kept-foreign _ _ _ (sheet-sound at) _ _ _ _ _ _ _ (at .loop .inv .0) _ (entry at .pre .1) (c .before .before .before .before .loop-test .taken)
+          (λ e. c .before .before .if1 .taken (ap (λ (k : ℕ). input / 2 ^ k) (at .before .before .before .before .event-count .ensures) ∙ e))
+          ∙ from at,
+      omega (arith, c .ended .ensures .1, at .loop .inv .1),
+    )
 
 -- the input set has no bit at k or above
 input-ok : (c : tie.Else1 Inv-loop μ-loop)
@@ -147,15 +149,17 @@ same-length-2 c = omega (arith, c .before .before .before .before .before .befor
 returns-2 : tie.Need-returns-2 Inv-loop μ-loop
 returns-2 c =
     let ticks = c .before .before .before .before in
-    let at = ticks .before .before .before .before .before .before in
-    c .ended2 .ensures (at .loop .out)
-    ∙ kept-refused _ _ _ (sheet-sound at) _ _ _ _ _ _ _ (at .loop .inv .0) _ (entry at .pre .1) (ticks .before .before .before .before .before .loop-test .taken)
-    (input-ok (ticks .before .before .before)) (tickOf (ticks .tick .result)) (ticked ticks)
-    (λ e. c .before .before .if2 .taken (c .before .before .before .number .ensures ∙ e))
-    ∙ from at
+    let at = ticks .before .before .before .before .before .before in (
+      c .ended2 .ensures .0 (at .loop .out)
+          ∙ kept-refused _ _ _ (sheet-sound at) _ _ _ _ _ _ _ (at .loop .inv .0) _ (entry at .pre .1) (ticks .before .before .before .before .before .loop-test .taken)
+          (input-ok (ticks .before .before .before)) (tickOf (ticks .tick .result)) (ticked ticks)
+          (λ e. c .before .before .if2 .taken (c .before .before .before .number .ensures ∙ e))
+          ∙ from at,
+      omega (arith, c .ended2 .ensures .1, at .loop .inv .1),
+    )
 
 from-set-requires-2 : tie.Need-from-set-requires-2 Inv-loop μ-loop
-from-set-requires-2 c κs = entry (c .before .before .before .before .before .before .before .before .before .before) .pre .1
+from-set-requires-2 c κs = entry (c .before .before .before .before .before .before .before .before .before .before) .pre .1 .fromAt
 
 restart-requires : tie.Need-restart-requires Inv-loop μ-loop
 restart-requires c κs =
@@ -210,10 +214,12 @@ same-length-3 c = search needs
 
 returns-3 : tie.Need-returns-3 Inv-loop μ-loop
 returns-3 c =
-    let at = c .before .before .before in
-    c .ended3 .ensures (at .loop .out)
-    ∙ kept-done _ _ _ (sheet-sound at) _ _ _ _ _ _ _ (at .loop .inv .0) _ (entry at .pre .1) (c .before .before .loop-test .left)
-    ∙ from at
+    let at = c .before .before .before in (
+      c .ended3 .ensures .0 (at .loop .out)
+          ∙ kept-done _ _ _ (sheet-sound at) _ _ _ _ _ _ _ (at .loop .inv .0) _ (entry at .pre .1) (c .before .before .loop-test .left)
+          ∙ from at,
+      omega (arith, c .ended3 .ensures .1, at .loop .inv .1),
+    )
 
 pub ticks-spec : {M : Type 1} → statement M
 ticks-spec =

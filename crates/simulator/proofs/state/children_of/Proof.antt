@@ -1,12 +1,12 @@
 -- `simulator::state::children_of` meets its contract: the children among the modes passed are found. Assumes nothing.
-use mathlib.Core.Path.{_≡_, refl, sym, ap, _∙_}
+use mathlib.Core.Path.{_≡_, _∙_}
 use mathlib.Core.Logic.{⊎-elim}
 use borrow.Author.Needs.{needs}
-use Prim.Native.Nat.{ℕ, _-_, _≤_}
+use Prim.Native.Nat.{_-_, _≤_}
 use native.Mathlib.Nat.{le-antisymm}
 use native.Mathlib.Omega.{arith}
-use Rattle.sets.specs.Sets.{union, setOf}
-use Rattle.sets.proofs.Membership.{setOf-add, setOf-skip}
+use Rattle.sets.specs.Sets.{setOf}
+use Rattle.sets.proofs.Loops.{setOf-none, setOf-added, setOf-passed, setOf-width}
 use Rattle.meaning.specs.Sheet.{isChild}
 use Rattle.meaning.specs.Hierarchy.{children}
 use Rattle.meaning.proofs.SheetLaws.{sound, n-le}
@@ -24,8 +24,7 @@ mode-count-requires : tie.Need-mode-count-requires Inv-loop μ-loop
 mode-count-requires c κs = head-read _ (c .before .pre)
 
 loop-holds : tie.Need-loop-holds Inv-loop μ-loop
-unfolding setOf
-loop-holds c = (omega arith, refl)
+loop-holds c = (omega arith, setOf-none _)
 
 is-child-requires : tie.Need-is-child-requires Inv-loop μ-loop
 is-child-requires c κs =
@@ -50,10 +49,8 @@ loop-again c =
     let p = isChild (a .sheet .now) (a .m) in
     let e = c .before .is-child .ensures in (
       omega arith,
-      ⊎-elim
-          (λ w. w .2 ∙ ap (λ (x : ℕ). union x (w .1 .result)) (l .inv .1) ∙ ap (union (setOf (l .c) p)) (w .1 .ensures) ∙ setOf-add (l .c) p (sym e ∙ w .0 .taken))
-          (λ w. w .1 ∙ l .inv .1 ∙ setOf-skip (l .c) p (sym e ∙ w .0 .left))
-          (c .if1 .came),
+      ⊎-elim (λ w. setOf-added p (l .c) (l .inv .1) (w .1 .ensures) e (w .0 .taken) (w .2))
+          (λ w. setOf-passed p (l .c) (l .inv .1) e (w .0 .left) (w .1)) (c .if1 .came),
     )
 
 returns : tie.Need-returns Inv-loop μ-loop
@@ -61,8 +58,7 @@ unfolding children
 returns c =
     let l = c .before .loop in
     let a = c .before .before .before .before .args in
-    l .inv .1
-    ∙ ap (λ (n : ℕ). setOf n (isChild (a .sheet .now) (a .m))) (le-antisymm (l .inv .0) (c .loop-test .left) ∙ c .before .before .mode-count .ensures)
+    setOf-width (isChild (a .sheet .now) (a .m)) (l .inv .1) (le-antisymm (l .inv .0) (c .loop-test .left) ∙ c .before .before .mode-count .ensures)
 
 pub children-of-spec : {M : Type 1} → statement M
 children-of-spec =

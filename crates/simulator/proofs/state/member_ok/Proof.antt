@@ -6,7 +6,7 @@ use native.Mathlib.Omega.{arith}
 use borrow.Author.Tests.{not-true, not-false}
 use lib.Dec.{eqb}
 use Rattle.sets.specs.Sets.{has, meet, size, everyIn}
-use Rattle.meaning.proofs.SheetLaws.{sound, n-le, parent-le}
+use Rattle.meaning.proofs.SheetLaws.{parent-le, sound, n-le, tree}
 use Rattle.meaning.specs.Sheet.{parent}
 use Rattle.sheet.proofs.Past.{row-read}
 use Rattle.simulator.proofs.StateLaws.{member-orphan, member-serial, member-parallel, member-atomic}
@@ -21,7 +21,7 @@ has-requires : tie.Need-has-requires
 has-requires c κs =
     let s = c .before .before in
     let sd = sound (s .args .sheet .now) (s .pre .0) in
-    omega (arith, c .parent .ensures, parent-le (s .args .sheet .now) sd (s .args .m) (s .pre .1), n-le (s .args .sheet .now) sd, s .pre .1)
+    omega (arith, c .parent .ensures, parent-le (s .args .sheet .now) (tree (s .args .sheet .now) sd) (s .args .m) (s .pre .1), n-le (s .args .sheet .now) sd, s .pre .1)
 
 -- whether the parent is in the set
 parented : (c : tie.After-has) (b : Bool) → c .has .result ≡ b → has (c .before .before .before .args .x) (parent (c .before .before .before .args .sheet .now) (c .before .before .before .args .m)) ≡ b

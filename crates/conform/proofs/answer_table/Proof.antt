@@ -1,0 +1,68 @@
+-- `conform::answer_table` meets its contract: the current table lies within the words lent, and these within the words for it, before and after.
+-- Assumes nothing.
+use lib.ListN.{length-take}
+use native.Mathlib.Omega.{arith}
+use borrow.Author.Needs.{needs}
+use Rattle.conform.proofs.answer_table.Statement.{statement}
+use Rattle.conform.proofs.answer_table.Tie as tie
+
+slice-reshare-prefix-table-run : tie.Need-slice-reshare-prefix-table-run
+slice-reshare-prefix-table-run c = search needs
+
+slice-aggregate-table-run : tie.Need-slice-aggregate-table-run
+slice-aggregate-table-run c = simp length-take (omega arith)
+
+table-run-requires : tie.Need-table-run-requires
+table-run-requires c κs = search needs
+
+slice-relend-prefix-write-word : tie.Need-slice-relend-prefix-write-word
+slice-relend-prefix-write-word c = search needs
+
+slice-aggregate-write-word : tie.Need-slice-aggregate-write-word
+slice-aggregate-write-word c = simp length-take (omega arith)
+
+write-word-requires : tie.Need-write-word-requires
+write-word-requires c κs = search needs
+
+number-requires : tie.Need-number-requires
+number-requires c κs = search needs
+
+at-most-requires : tie.Need-at-most-requires
+at-most-requires c κs = search needs
+
+same-length : tie.Need-same-length
+same-length c = search needs
+
+returns : tie.Need-returns
+returns c = search needs
+
+same-length-2 : tie.Need-same-length-2
+same-length-2 c = search needs
+
+returns-2 : tie.Need-returns-2
+returns-2 c = search needs
+
+returns-3 : tie.Need-returns-3
+returns-3 c = search needs
+
+returns-4 : tie.Need-returns-4
+returns-4 c = search needs
+
+pub answer-table-spec : {M : Type 1} → statement M
+answer-table-spec =
+    tie.close
+    (tie.spec
+    slice-reshare-prefix-table-run
+    slice-aggregate-table-run
+    table-run-requires
+    slice-relend-prefix-write-word
+    slice-aggregate-write-word
+    write-word-requires
+    number-requires
+    at-most-requires
+    same-length
+    returns
+    same-length-2
+    returns-2
+    returns-3
+    returns-4)

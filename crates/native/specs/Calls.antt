@@ -1,0 +1,58 @@
+-- What a call under a C name answers, and its lent words at exit. Assumes nothing.
+use mathlib.Core.Bool.{_||_, cond}
+use mathlib.Core.List.{List, [], _∷_}
+use Prim.Native.Nat.{ℕ, _/_, _%_, _^_}
+use lib.Dec.{ltb}
+use lib.ListN.{length, getD, take, drop}
+use Rattle.meaning.specs.Lists.{overwritten}
+use Rattle.meaning.specs.Run.{State, Run}
+use Rattle.meaning.specs.SheetRun.{sheetRun}
+use Rattle.meaning.specs.TableRun.{tableRun}
+use Rattle.meaning.specs.Compile.{compile}
+
+pub record CompileCall : Type 0 where
+  pub answer : ℕ
+  pub table : List ℕ
+  pub work : List ℕ
+  pub info : List ℕ
+
+unfoldable pub compileCall : List ℕ → List ℕ → List ℕ → List ℕ → CompileCall
+compileCall sheet table work info =
+    let o = compile sheet work table in
+    let nothing : CompileCall = record { answer = 4294967295; table = table; work = work; info = info } in
+    let done : CompileCall =
+    record { answer = o .refusal; table = o .table; work = o .work; info = overwritten (o .f ∷ o .tableLength ∷ []) info } in
+    cond (ltb (length info) 2) nothing done
+
+-- the state that 65 words hold
+unfoldable pub stateIn : List ℕ → State
+stateIn words = record { at = getD words 0 0; readings = take 64 (drop 1 words) }
+
+pub record RunCall : Type 0 where
+  pub answer : ℕ
+  pub state : List ℕ
+  pub out : List ℕ
+  pub info : List ℕ
+
+-- a call that ran and puts these counts into info
+unfoldable pub runCall : Run → List ℕ → List ℕ → List ℕ → RunCall
+runCall o counts state info =
+    record {
+      answer = o .refusal;
+      state = overwritten (o .state .at ∷ o .state .readings) state;
+      out = o .out;
+      info = overwritten counts info;
+    }
+
+unfoldable pub sheetCall : List ℕ → List ℕ → List ℕ → List ℕ → List ℕ → RunCall
+sheetCall sheet state inputs out info =
+    let o = sheetRun sheet (stateIn state) inputs out in
+    let nothing : RunCall = record { answer = 4294967295; state = state; out = out; info = info } in
+    let counts = o .done ∷ o .rounds / 2 ^ 32 ∷ o .rounds % 2 ^ 32 ∷ [] in
+    cond (ltb (length info) 3 || ltb (length state) 65) nothing (runCall o counts state info)
+
+unfoldable pub tableCall : List ℕ → List ℕ → List ℕ → List ℕ → List ℕ → RunCall
+tableCall table state inputs out info =
+    let o = tableRun table (stateIn state) inputs out in
+    let nothing : RunCall = record { answer = 4294967295; state = state; out = out; info = info } in
+    cond (ltb (length info) 1 || ltb (length state) 65) nothing (runCall o (o .done ∷ []) state info)

@@ -1,0 +1,27 @@
+-- A block's timers and cells: where they stand, and the number of a cell. Assumes nothing.
+use mathlib.Core.Path.{_≡_}
+use mathlib.Core.List.{List}
+use Prim.Native.Nat.{ℕ, _+_, _*_, _%_, _^_, _≤_, _<_}
+use native.Mathlib.Nat.{lt-of-lt-of-le, mul-le-mul-left}
+use native.Mathlib.Omega.{arith}
+use lib.Arith.{digits-lt}
+use lib.Dec.{T}
+use lib.ListN.{length}
+use lib.Pow.{shl-exact, pow-mono}
+use Rattle.meaning.specs.Table.{wordIn, bIn, offsetIn, timersIn, tableOk}
+use Rattle.layout.proofs.Sound.{length-is, block-inside}
+
+-- a block's mask and timers lie within the table
+pub header-inside : (w : List ℕ) → T (tableOk w) → (b : ℕ) → b < bIn w → offsetIn w b + 3 ≤ length w
+header-inside w h b l = omega (arith, length-is w h b l, block-inside w h b l)
+
+pub timers-are : (w : List ℕ) (b : ℕ) {at : ℕ} → at ≡ offsetIn w b → wordIn w (at + 2) * 2 ^ 32 + wordIn w (at + 1) ≡ timersIn w b
+unfolding timersIn
+timers-are w b e = rw e
+
+-- `due << k`, and the cell's number is small
+pub due-shl : {due : ℕ} (k : ℕ) → due < 64 → k ≤ 6 → due * 2 ^ k % 2 ^ 64 ≡ due * 2 ^ k
+due-shl k d l = shl-exact 6 k 64 d (omega arith)
+
+pub cell-small : {due : ℕ} (k : ℕ) {input : ℕ} → due < 64 → k ≤ 6 → input < 2 ^ k → due * 2 ^ k + input < 4096
+cell-small k d l i = lt-of-lt-of-le (digits-lt d i) (mul-le-mul-left 64 (pow-mono {j = 6} l))

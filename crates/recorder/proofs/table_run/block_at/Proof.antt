@@ -1,0 +1,31 @@
+-- `recorder::table_run::block_at` meets its contract. Assumes nothing.
+use mathlib.Core.Path.{refl, ap, _∙_}
+use Prim.Native.Nat.{ℕ, _+_}
+use native.Mathlib.Omega.{arith}
+use Rattle.sets.proofs.Tests.{of-true}
+use Rattle.layout.proofs.Sound.{head-sound}
+use Rattle.recorder.proofs.BlockLaws.{header-inside, timers-are}
+use Rattle.recorder.proofs.table_run.block_at.Statement.{statement}
+use Rattle.recorder.proofs.table_run.block_at.Tie as tie
+
+offset-requires : tie.Need-offset-requires
+offset-requires c κs = (head-sound _ (of-true (c .before .pre .0)), c .before .pre .1)
+
+add-t4 : tie.Need-add-t4
+add-t4 c =
+    let s = c .before .before in
+    omega (arith, c .offset .ensures, header-inside (s .args .table .now) (of-true (s .pre .0)) (s .args .number) (s .pre .1))
+
+timers-at-requires : tie.Need-timers-at-requires
+timers-at-requires c κs =
+    let s = c .before .before in
+    omega (arith, c .offset .ensures, header-inside (s .args .table .now) (of-true (s .pre .0)) (s .args .number) (s .pre .1))
+
+returns : tie.Need-returns
+returns c =
+    let a = c .before .before .before .args in
+    let e = c .before .offset .ensures in
+    (refl, (ap (λ (x : ℕ). x + 3) e, c .timers-at .ensures ∙ timers-are (a .table .now) (a .number) e))
+
+pub block-at-spec : {M : Type 1} → statement M
+block-at-spec = tie.close (tie.spec offset-requires add-t4 timers-at-requires returns)

@@ -1,0 +1,19 @@
+-- What a table run returns, as the meaning has it. Assumes nothing.
+use mathlib.Core.Path.{_≡_}
+use mathlib.Core.List.{List}
+use Prim.Native.Nat.{ℕ, _+_}
+use Rattle.meaning.specs.Refusal.{numberOf}
+use Rattle.meaning.specs.Run as meaning
+use Rattle.meaning.specs.Table.{offsetIn, timersIn}
+use Rattle.clock.specs.Runs.{stateOf}
+use Rattle.recorder.specs.declared.table_run.Ran.{Ran}
+use Rattle.recorder.specs.declared.table_run.Block.{Block}
+
+-- what a table run returns, and its output words at exit; a table has no rounds
+abbrev pub ranOf : Ran → List ℕ → meaning.Run
+ranOf r out =
+    record { done = r .done .0; state = stateOf (r .state); refusal = numberOf (r .refusal); rounds = 0; out = out }
+
+-- the struct of a block holds what the table says of it
+abbrev pub BlockOf : List ℕ → Block → Type 0
+BlockOf w b = (b .cells ≡ offsetIn w (b .number) + 3) × (b .timers ≡ timersIn w (b .number))

@@ -1,0 +1,20 @@
+-- What a table says of its timers, as a run works it out once. Assumes nothing.
+use mathlib.Core.Bool.{Bool, _&&_, cond}
+use mathlib.Core.List.{List}
+use Prim.Native.Nat.{ℕ}
+use lib.Dec.{eqb, ltb}
+use Rattle.sets.specs.Sets.{setOf}
+use Rattle.meaning.specs.Table.{tIn, sourceIn, delayIn}
+
+module _ (w : List ℕ) where
+  -- the delay of a timer, 0 for other transitions
+  unfoldable pub delayOr0 : ℕ → ℕ
+  delayOr0 t = cond (ltb t (tIn w)) (delayIn w t) 0
+
+  -- the timers with source m, of the transitions below n
+  unfoldable pub timersBelow : ℕ → ℕ → ℕ
+  timersBelow n m = setOf n (λ t. ltb 0 (delayIn w t) && eqb (sourceIn w t) m)
+
+  -- the timers with source m
+  unfoldable pub timersFrom : ℕ → ℕ
+  timersFrom m = timersBelow (tIn w) m

@@ -1,0 +1,4 @@
+// The table run.
+mod state;
+pub mod table_run;
+mod timers;

@@ -1,0 +1,24 @@
+// Which states refusal 14 admits.
+ghost use mathlib.Core.Path.{_≡_};
+ghost use mathlib.Core.Bool.{true};
+ghost use Rattle.meaning.specs.Lists.{rowFrom};
+ghost use Rattle.meaning.specs.Table.{tableOk};
+ghost use Rattle.meaning.specs.TableRun.{tableStateOk};
+ghost use Rattle.recorder.specs.Timers.{delayOr0};
+use clock::state::readings_ok;
+use layout::words::block_count;
+use layout::words::offset;
+use layout::words::timers_at;
+
+// The block exists, and its readings are sound: 14 if not. Block 0 has no timers, so with it the state is fresh.
+pub fn state_ok(table: &[u32], delays: &[u64; 64], block: u32, readings: &[u32; 64]) -> bool
+    requires { ⌜ (tableOk (now table) ≡ true) × (now delays ≡ rowFrom 0 64 (delayOr0 (now table))) ⌝ }
+    ensures { λ r. ⌜ r ≡ tableStateOk (now (table .entry)) (record { at = block; readings = now (readings .entry) }) ⌝ }
+{
+    let b = block as usize;
+    if block_count(table) <= b {
+        return false;
+    }
+    let at = offset(table, b);
+    readings_ok(delays, timers_at(table, at), readings)
+}

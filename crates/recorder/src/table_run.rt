@@ -1,0 +1,174 @@
+// The table run.
+ghost use mathlib.Core.Path.{_≡_};
+ghost use mathlib.Core.Bool.{not, true};
+ghost use mathlib.Core.List.{List};
+ghost use Prim.Native.Nat.{ℕ, _+_, _*_, _^_, _≤_, _<_};
+ghost use lib.Dec.{eqb};
+ghost use lib.ListN.{length, getD};
+ghost use Rattle.sets.specs.Sets.{has, minus};
+ghost use Rattle.rows.specs.Over.{fiveOf};
+ghost use Rattle.meaning.specs.Lists.{rowFrom};
+ghost use Rattle.meaning.specs.Refusal.{numberOf};
+ghost use Rattle.meaning.specs.Run.{ran};
+ghost use Rattle.meaning.specs.Table.{wordIn, bIn, tableOk};
+ghost use Rattle.meaning.specs.TableRun.{tableStateOk, tableTicks, tableRun};
+ghost use Rattle.clock.specs.Runs.{stateOf, endedRun};
+ghost use Rattle.recorder.specs.Timers.{delayOr0};
+ghost use Rattle.recorder.specs.Runs.{ranOf, BlockOf};
+use super::state::state_ok;
+use super::timers::delays;
+use super::timers::sources;
+use super::timers::started;
+use super::timers::timers_from;
+use clock::counts::Ticks;
+use clock::deadlines::deadlines;
+use clock::deadlines::due;
+use clock::deadlines::readings_at;
+use clock::deadlines::restart;
+use clock::state::State;
+use layout::table_ok;
+use layout::words::event_count;
+use layout::words::offset;
+use layout::words::timers_at;
+use meaning::refusal::Refusal;
+use rows::Five;
+use rows::put_five;
+use sets::transitions;
+
+// What a table run returns: ticks done, the state after them, the refusal.
+pub struct Ran {
+    pub done: Ticks,
+    pub state: State,
+    pub refusal: Refusal,
+}
+
+// A block: its number, where its cells begin, its running timers.
+struct Block {
+    number: u32,
+    cells: usize,
+    timers: u64,
+}
+
+fn block_at(table: &[u32], number: u32) -> Block
+    requires { ⌜ (tableOk (now table) ≡ true) × (number < bIn (now table)) ⌝ }
+    ensures { λ r. ⌜ (r .number ≡ number) × BlockOf (now (table .entry)) r ⌝ }
+{
+    let at = offset(table, number as usize);
+    Block {
+        number,
+        cells: at + 3,
+        timers: timers_at(table, at),
+    }
+}
+
+// The number of a cell: due timers, then input set.
+fn cell_number(due: u64, k: u32, input: u32) -> usize
+    requires { ⌜ (due < 64) × (k ≤ 6) × (input < 2 ^ k) ⌝ }
+    ensures { λ r. ⌜ r ≡ due * 2 ^ k + input ⌝ }
+{
+    ((due << k) as usize) + (input as usize)
+}
+
+// The five words of the cell that begins at a place.
+fn five_at(table: &[u32], cell: usize) -> Five
+    requires { ⌜ cell + 6 ≤ length (now table) ⌝ }
+    ensures { λ r. ⌜ fiveOf r ≡ rowFrom 1 5 (λ j. wordIn (now (table .entry)) (cell + j)) ⌝ }
+{
+    Five {
+        entered: table[cell + 1],
+        exited: table[cell + 2],
+        active: table[cell + 3],
+        low: table[cell + 4],
+        high: table[cell + 5],
+    }
+}
+
+// Of the timers that go on, one did not run or is due: it has no reading left.
+fn is_stale(timers: u64, due: u64, kept: u64) -> bool
+    ensures { λ r. ⌜ r ≡ not (eqb (minus kept (minus timers due)) 0) ⌝ }
+{
+    transitions::minus(kept, transitions::minus(timers, due)) != 0
+}
+
+// A run that ends after some ticks in a block; no deadline of its timers is past.
+fn ended(ends: &[u64; 64], b: Block, done: usize, why: Refusal) -> Ran
+    requires { ⌜ ((t : ℕ) → has (b .timers) t ≡ true → done ≤ getD (now ends) t 0) ⌝ }
+    ensures { λ r. ⌜ ((out : List ℕ) → ranOf r out ≡ endedRun (now (ends .entry)) (b .number) (b .timers) done 0 (numberOf why) out) ⌝ }
+{
+    let readings = readings_at(ends, b.timers, done as u64);
+    Ran {
+        done: Ticks(done),
+        state: State {
+            at: b.number,
+            readings,
+        },
+        refusal: why,
+    }
+}
+
+// Tick by tick: 13, then 15. A tick that stays in its block, with no timer due and no timer's source entered, moves no deadline.
+fn ticks(table: &[u32], delays: &[u64; 64], start: State, inputs: &[u32], out: &mut [u32]) -> Ran
+    requires { ⌜ (tableOk (now table) ≡ true) × (now delays ≡ rowFrom 0 64 (delayOr0 (now table))) × (tableStateOk (now table) (stateOf start) ≡ true) × (5 * length (now inputs) ≤ length (now out)) ⌝ }
+    ensures { λ r. ⌜ ranOf r (now (out .exit)) ≡ ran (now (out .entry)) (tableTicks (now (table .entry)) (now (inputs .entry)) (stateOf start)) ⌝ }
+{
+    let k = event_count(table);
+    let from = timers_from(table);
+    let timed = sources(&from);
+    let readings = start.readings;
+    let mut ends = deadlines(readings);
+    let mut b = block_at(table, start.at);
+    let mut i = 0;
+    while i < inputs.len() {
+        let input = inputs[i];
+        if input >> k != 0 {
+            return ended(&ends, b, i, Refusal::InputSet);
+        }
+        let now = (i + 1) as u64;
+        let d = due(&ends, b.timers, now);
+        let cell = b.cells + 6 * cell_number(d.number, k, input);
+        let next = table[cell];
+        let entered = table[cell + 1] & timed;
+        if next != b.number || d.set != 0 || entered != 0 {
+            let to = block_at(table, next);
+            let again = to.timers & started(&from, entered);
+            if is_stale(b.timers, d.set, transitions::minus(to.timers, again)) {
+                return ended(&ends, b, i, Refusal::Layout);
+            }
+            restart(delays, &mut ends, again, now);
+            b = to;
+        }
+        put_five(out, 5 * i, five_at(table, cell));
+        i += 1;
+    }
+    ended(&ends, b, i, Refusal::Nothing)
+}
+
+// A run that stops before any tick.
+fn stops(state: State, why: Refusal) -> Ran
+    ensures { λ r. ⌜ ((out : List ℕ) → ranOf r out ≡ record { done = 0; state = stateOf state; refusal = numberOf why; rounds = 0; out = out }) ⌝ }
+{
+    Ran {
+        done: Ticks(0),
+        state,
+        refusal: why,
+    }
+}
+
+// The table run, on any table words, state, input sets and output words: 15, 14, 12, then tick by tick 13, then 15. A refused tick
+// leaves the state of the tick before; only the five words of each done tick are written, at 5p.
+pub fn run(table: &[u32], state: State, inputs: &[u32], out: &mut [u32]) -> Ran
+    ensures { λ r. ⌜ ranOf r (now (out .exit)) ≡ tableRun (now (table .entry)) (stateOf state) (now (inputs .entry)) (now (out .entry)) ⌝ }
+{
+    if !table_ok(table) {
+        return stops(state, Refusal::Layout);
+    }
+    let delays = delays(table);
+    let readings = state.readings;
+    if !state_ok(table, &delays, state.at, &readings) {
+        return stops(state, Refusal::State);
+    }
+    if out.len() / 5 < inputs.len() {
+        return stops(state, Refusal::ShortOutput);
+    }
+    ticks(table, &delays, state, inputs, out)
+}

@@ -1,0 +1,77 @@
+// What a table says of its timers, worked out once per call.
+ghost use mathlib.Core.Path.{_≡_};
+ghost use mathlib.Core.Bool.{not, true};
+ghost use Prim.Native.Nat.{ℕ, _^_, _<_};
+ghost use lib.Dec.{eqb};
+ghost use lib.ListN.{getD};
+ghost use Rattle.sets.specs.Sets.{has, setOf, someIn};
+ghost use Rattle.meaning.specs.Lists.{rowFrom};
+ghost use Rattle.meaning.specs.Table.{tableOk};
+ghost use Rattle.recorder.specs.Timers.{delayOr0, timersFrom};
+use layout::words::timer_delay;
+use layout::words::timer_source;
+use layout::words::transition_count;
+use sets::modes;
+use sets::transitions;
+
+// The delay of each timer, 0 for other transitions.
+pub fn delays(table: &[u32]) -> [u64; 64]
+    requires { ⌜ tableOk (now table) ≡ true ⌝ }
+    ensures { λ r. ⌜ r ≡ rowFrom 0 64 (delayOr0 (now (table .entry))) ⌝ }
+{
+    let count = transition_count(table);
+    let mut r = [0u64; 64];
+    let mut t = 0;
+    while t < count {
+        r[t] = timer_delay(table, t);
+        t += 1;
+    }
+    r
+}
+
+// The timers of each source.
+pub fn timers_from(table: &[u32]) -> [u64; 32]
+    requires { ⌜ tableOk (now table) ≡ true ⌝ }
+    ensures { λ r. ⌜ r ≡ rowFrom 0 32 (timersFrom (now (table .entry))) ⌝ }
+{
+    let count = transition_count(table);
+    let mut r = [0u64; 32];
+    let mut t = 0;
+    while t < count {
+        if timer_delay(table, t) != 0 {
+            let m = timer_source(table, t);
+            r[m] = r[m] | transitions::single(t);
+        }
+        t += 1;
+    }
+    r
+}
+
+// The modes that are the source of a timer.
+pub fn sources(from: &[u64; 32]) -> u32
+    ensures { λ r. ⌜ r ≡ setOf 32 (λ m. not (eqb (getD (now (from .entry)) m 0) 0)) ⌝ }
+{
+    let mut r = 0u32;
+    let mut m = 0;
+    while m < 32 {
+        if from[m] != 0 {
+            r |= modes::single(m);
+        }
+        m += 1;
+    }
+    r
+}
+
+// The timers whose source is in a set.
+pub fn started(from: &[u64; 32], set: u32) -> u64
+    requires { ⌜ ((m : ℕ) → m < 32 → getD (now from) m 0 < 2 ^ 64) ⌝ }
+    ensures { λ r. ⌜ r ≡ setOf 64 (λ t. someIn 32 set (λ m. has (getD (now (from .entry)) m 0) t)) ⌝ }
+{
+    let mut r = 0u64;
+    let mut rest = set;
+    while rest != 0 {
+        r |= from[modes::lowest(rest)];
+        rest = modes::without_lowest(rest);
+    }
+    r
+}

@@ -1,0 +1,51 @@
+// The charts of the peer's own timing program.
+use modechart::gensheet as g;
+use modechart::rng::Rng;
+use modechart::*;
+
+// Two parallel levels, exits across levels, chains of terms, timers: the largest table of 400 drawn charts.
+fn nested() -> Vec<u32> {
+    let mut pick: (usize, Vec<u32>) = (0, vec![]);
+    for seed in 0..400 {
+        let sheet = g::grown(&mut Rng::new(seed));
+        if sheet[2] < 12 {
+            continue;
+        }
+        let c = fast::compile(&sheet, &mut vec![0; 1 << 22], &mut vec![0; 4095]);
+        if c.refusal == 0 && c.length > pick.0 {
+            pick = (c.length, sheet);
+        }
+    }
+    pick.1
+}
+
+// Every region's moves look at the moves of the region before: long reactions.
+fn chain() -> Vec<u32> {
+    let mut d = g::regions(&[2; 10], 2);
+    let at = 11u32;
+    d.trans.push((at, at + 1, vec![(1, 0), (2, 1)]));
+    d.trans.push((at + 1, at, vec![(2, 0), (1, 1)]));
+    for i in 1..10u32 {
+        let (a, b) = (at + 2 * i, at + 2 * i + 1);
+        let (pa, pb) = (a - 2, b - 2);
+        d.trans.push((a, b, vec![(4, pb), (5, pa), (7, 0), (6, 2 * (i - 1)), (1, 0)]));
+        d.trans.push((b, a, vec![(4, pa), (5, pb), (3, 1 << pa | 1 << pb)]));
+    }
+    d.words()
+}
+
+pub fn charts(large: bool) -> Vec<(&'static str, Vec<u32>)> {
+    let example = vec![3, 1, 2, 1, 0, 1, 0, 0, 0, 0, 0, 0, 16, 4, 20, 4, 1, 2, 1, 0, 2, 1, 0, 2];
+    let mut charts = vec![
+        ("example", example),
+        ("chain, k = 2", chain()),
+        ("nested, k = 3", nested()),
+        ("event rings, k = 6", g::rings(&[4, 4, 4, 4, 4, 2]).words()),
+        ("timer rings, k = 0", g::timer_rings(&[4, 4, 4, 4, 4, 3], 0).words()),
+        ("timer rings, k = 3", g::timer_rings(&[4, 4, 4, 4, 4, 3], 3).words()),
+    ];
+    if large {
+        charts.push(("timer rings, k = 6", g::timer_rings(&[4, 4, 4, 4, 4, 3], 6).words()));
+    }
+    charts
+}
