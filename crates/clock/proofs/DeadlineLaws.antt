@@ -1,19 +1,20 @@
 -- Readings by deadlines: the reading of a timer that runs is its deadline less the ticks done. Assumes nothing.
-use mathlib.Core.Path.{_≡_, sym, ap, _∙_}
-use mathlib.Core.Bool.{Bool, cond}
+use mathlib.Core.Path.{_≡_, sym, ap, _∙_, subst}
+use mathlib.Core.Bool.{Bool, true, false, _&&_, cond}
 use mathlib.Core.List.{List}
-use Prim.Native.Nat.{ℕ, _+_, _-_, _%_, _^_, _<_}
-use native.Mathlib.Nat.{zero-add, mod-eq-of-lt}
+use Prim.Native.Nat.{ℕ, _+_, _-_, _%_, _^_, _≤_, _<_}
+use native.Mathlib.Nat.{zero-add, sub-zero, mod-eq-of-lt}
 use native.Mathlib.Omega.{arith}
-use lib.Dec.{T, eqb, eqb→eq}
-use lib.ListN.{getD}
+use lib.Dec.{T, eqb, leb, eqb→eq, leb→le}
+use lib.ListN.{length, getD}
 use borrow.Author.Tests.{eq-eqb}
 use Rattle.sets.specs.Sets.{has, those}
-use Rattle.sets.proofs.Tests.{is-true, of-true, bool-ext, cond-ext}
+use Rattle.sets.proofs.Tests.{is-true, of-true, and-l, and-r, bool-ext, cond-ext}
 use Rattle.sets.proofs.Membership.{those-same}
 use Rattle.meaning.specs.Lists.{rowFrom}
 use Rattle.meaning.specs.Run.{reading, dueTimers}
-use Rattle.meaning.proofs.ListLaws.{rowFrom-at, rowFrom-ext}
+use Rattle.meaning.proofs.ListLaws.{rowFrom-at, rowFrom-ext, rowFrom-getD}
+use Rattle.clock.proofs.ReadingLaws.{readingFits}
 
 -- the readings after i ticks, of timers with these deadlines
 abbrev pub readingsFrom : ℕ → List ℕ → ℕ → List ℕ
@@ -45,3 +46,23 @@ module _ (timers : ℕ) (ends : List ℕ) (i : ℕ) where
   readings-word small =
       rowFrom-ext (λ t. cond (has timers t) ((getD ends t 0 - i) % 2 ^ 32) 0) (λ t. cond (has timers t) (getD ends t 0 - i) 0) 0 64
       (λ t a b. cond-ext (has timers t) ((getD ends t 0 - i) % 2 ^ 32) (getD ends t 0 - i) 0 (λ h. mod-eq-of-lt (small t (omega arith) h)))
+
+-- ---- at the start of a call the deadlines are the readings, where these are sound
+
+module _ (timers : ℕ) (delayOf : ℕ → ℕ) (readings : List ℕ) (sound : (t : ℕ) → t < 64 → T (readingFits timers delayOf readings t)) where
+  pub start-readings : length readings ≡ 64 → readingsFrom timers readings 0 ≡ readings
+  start-readings n =
+      rowFrom-ext (λ t. cond (has timers t) (getD readings t 0 - 0) 0) (λ t. getD readings t 0) 0 64
+      (λ t a b. at (has timers t) (getD readings t 0) (delayOf t) (sound t (omega arith)))
+      ∙ sym (rw n at (rowFrom-getD readings 0))
+    where
+      at : (b : Bool) (v d : ℕ) → T (cond b (leb 1 v && leb v d) (eqb v 0)) → cond b (v - 0) 0 ≡ v
+      at true v d k = sub-zero v
+      at false v d k = sym (eqb→eq v 0 k)
+
+  pub start-within : (t : ℕ) → t < 64 → T (has timers t) → (1 ≤ getD readings t 0) × (getD readings t 0 ≤ delayOf t)
+  start-within t l k =
+      let v = getD readings t 0 in
+      let r : T (leb 1 v && leb v (delayOf t)) =
+      subst (λ (b : Bool). T (cond b (leb 1 v && leb v (delayOf t)) (eqb v 0))) (is-true (has timers t) k) (sound t l) in
+      (leb→le 1 v (and-l (leb 1 v) (leb v (delayOf t)) r), leb→le v (delayOf t) (and-r (leb 1 v) (leb v (delayOf t)) r))

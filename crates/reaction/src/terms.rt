@@ -3,7 +3,6 @@ ghost use mathlib.Core.Path.{_≡_};
 ghost use mathlib.Core.Bool.{false};
 ghost use mathlib.Core.List.{[], _∷_};
 ghost use Prim.Native.Nat.{_-_, _^_, _<_};
-ghost use lib.ListN.{length, getD};
 ghost use Rattle.meaning.specs.Sheet.{tOf};
 ghost use Rattle.meaning.specs.Check.{sheetRefusal};
 ghost use Rattle.meaning.specs.Reaction.{isDelay};

@@ -4,10 +4,10 @@ use mathlib.Core.Logic.{_⊎_, inl, inr}
 use mathlib.Core.Bool.{Bool, true, false, not, _&&_, cond}
 use mathlib.Core.List.{List}
 use Prim.Native.Nat.{ℕ, suc, _+_, _-_, _*_, _/_, _^_, _≤_, _<_, zero-le}
-use native.Mathlib.Nat.{add-zero, le-of-lt, sub-zero, pow-le-pow-right, lt-of-lt-of-le}
+use native.Mathlib.Nat.{add-zero, le-of-lt, pow-le-pow-right, lt-of-lt-of-le}
 use native.Mathlib.Numerals.{add-one}
 use native.Mathlib.Omega.{arith}
-use lib.Dec.{T, eqb, leb, ltb, eqb→eq, leb→le, ltb→lt}
+use lib.Dec.{T, eqb, leb, ltb, eqb→eq, ltb→lt}
 use lib.ListN.{length, getD, drop, drop-of-length-le}
 use lib.Seq.{drop-cons}
 use borrow.Author.Tests.{lt-ltb, le-ltb}
@@ -21,11 +21,11 @@ use Rattle.meaning.specs.Lists.{rowFrom, overwritten}
 use Rattle.meaning.specs.Run.{State, reading, isFresh, readingsOk, dueTimers, nextReadings, stops, outputShort, inputForeign, Run, ran}
 use Rattle.meaning.specs.Table.{wordIn, kIn, bIn, sourceIn, delayIn, offsetIn, timersIn, cellsIn, cellWord, tableOk}
 use Rattle.meaning.specs.TableRun.{dueNumber, tableStateOk, cellOf, stateAfterCell, isStale, tableTicks, tableRun}
-use Rattle.meaning.proofs.ListLaws.{rowFrom-ext, rowFrom-length, rowFrom-getD}
+use Rattle.meaning.proofs.ListLaws.{rowFrom-ext, rowFrom-length}
 use Rattle.meaning.proofs.TableLaws.{dueNumber-lt}
 use Rattle.clock.specs.Runs.{endedRun}
 use Rattle.clock.proofs.ReadingLaws.{readingFits}
-use Rattle.clock.proofs.DeadlineLaws.{readingsFrom, due-deadlines, readings-word}
+use Rattle.clock.proofs.DeadlineLaws.{readingsFrom, due-deadlines, readings-word, start-readings, start-within}
 use Rattle.clock.proofs.RunPlaces.{input-foreign, input-below, input-fits, placed, placed-all, placed-stops, placed-more}
 use Rattle.layout.proofs.Sound.{b-pos, timers-first, timers-few, timer-lt, delay-pos, delay-lt, cell-lt, cell-inside, next-lt}
 use Rattle.recorder.specs.Timers.{delayOr0, timersFrom}
@@ -68,24 +68,12 @@ module _ (w : List ℕ) (h : T (tableOk w)) (b : ℕ) (readings : List ℕ) (ok 
   start-low = admitted .0
 
   start-state : length readings ≡ 64 → stateAt w b readings 0 ≡ record { at = b; readings = readings }
-  start-state n =
-      ap (λ (l : List ℕ). record { at = b; readings = l })
-      (rowFrom-ext (λ t. cond (has (timersIn w b) t) (getD readings t 0 - 0) 0) (λ t. getD readings t 0) 0 64
-      (λ t a c. at (has (timersIn w b) t) (getD readings t 0) (delayIn w t) (admitted .1 t (omega arith)))
-      ∙ sym (rw n at (rowFrom-getD readings 0)))
-    where
-      at : (a : Bool) (v d : ℕ) → T (cond a (leb 1 v && leb v d) (eqb v 0)) → cond a (v - 0) 0 ≡ v
-      at true v d k = sub-zero v
-      at false v d k = sym (eqb→eq v 0 k)
+  start-state n = ap (λ (l : List ℕ). record { at = b; readings = l }) (start-readings (timersIn w b) (delayIn w) readings (admitted .1) n)
 
   start-ahead : (t : ℕ) → t < 64 → T (has (timersIn w b) t) → (0 < getD readings t 0) × (getD readings t 0 ≤ 0 + 65535)
   start-ahead t l k =
-      let v = getD readings t 0 in
-      let r : T (leb 1 v && leb v (delayIn w t)) =
-      subst (λ (a : Bool). T (cond a (leb 1 v && leb v (delayIn w t)) (eqb v 0))) (is-true (has (timersIn w b) t) k) (admitted .1 t l) in
-      let low : 1 ≤ v = leb→le 1 v (and-l (leb 1 v) (leb v (delayIn w t)) r) in
-      let high : v ≤ delayIn w t = leb→le v (delayIn w t) (and-r (leb 1 v) (leb v (delayIn w t)) r) in
-      (omega arith, omega (arith, delay-lt w h t))
+      let r = start-within (timersIn w b) (delayIn w) readings (admitted .1) t l k in
+      (omega (arith, r .0), omega (arith, r .1, delay-lt w h t))
 
 -- ---- one tick of the definition, from the place of tick i on
 

@@ -4,7 +4,7 @@ ghost use mathlib.Core.Bool.{_&&_, not};
 ghost use Prim.Native.Nat.{suc, _^_, _≤_, _<_};
 ghost use lib.Dec.{T, eqb, ltb};
 ghost use Rattle.sets.specs.Sets.{every};
-ghost use Rattle.meaning.specs.Sheet.{nOf, tOf, termCount, termKind};
+ghost use Rattle.meaning.specs.Sheet.{termCount, termKind};
 ghost use Rattle.meaning.specs.Check.{headOk, pairsOk, termOk, termsOk};
 ghost use Rattle.sheet.specs.Reading.{Record, Term};
 use super::words::event_count;

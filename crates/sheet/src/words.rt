@@ -2,7 +2,7 @@
 ghost use mathlib.Core.Path.{_≡_};
 ghost use Prim.Native.Nat.{_+_, _*_};
 ghost use lib.Dec.{T};
-ghost use Rattle.meaning.specs.Sheet.{nOf, kOf, tOf, kind, parent, first, isChild, offset, recordLength, endBefore, source, target, termCount, termKind, termValue};
+ghost use Rattle.meaning.specs.Sheet.{nOf, kOf, tOf, kind, parent, first, isChild, offset, recordLength, source, target, termCount, termKind, termValue};
 ghost use Rattle.meaning.specs.Check.{headOk};
 ghost use Rattle.sheet.specs.Reading.{Row, Pair, Record, Term};
 

@@ -4,15 +4,15 @@ use mathlib.Core.Logic.{_⊎_, inl, inr}
 use mathlib.Core.Bool.{Bool, true, false, not, _&&_, cond, and-true}
 use mathlib.Core.List.{List}
 use Prim.Native.Nat.{ℕ, suc, _+_, _-_, _*_, _/_, _%_, _^_, _≤_, _<_, zero-le}
-use native.Mathlib.Nat.{zero-add, le-of-lt, pos-of-ne-zero, lt-of-lt-of-le, sub-zero}
+use native.Mathlib.Nat.{zero-add, le-of-lt, pos-of-ne-zero, lt-of-lt-of-le}
 use native.Mathlib.Numerals.{add-one}
 use native.Mathlib.Omega.{arith}
-use lib.Dec.{T, eqb, leb, ltb, eqb→eq, leb→le}
+use lib.Dec.{T, eqb, ltb}
 use lib.ListN.{length, getD, drop, drop-of-length-le}
 use lib.Seq.{drop-cons}
 use borrow.Author.Tests.{eq-eqb, ne-eqb, lt-ltb, le-ltb}
 use Rattle.sets.specs.Sets.{has, meet, those}
-use Rattle.sets.proofs.Tests.{is-true, is-false, of-true, and-l, and-r, cond-ext}
+use Rattle.sets.proofs.Tests.{is-true, is-false, of-true, cond-ext}
 use Rattle.sets.proofs.Facts.{setOf-i, those-e}
 use Rattle.sets.proofs.Membership.{has-none, has-meet, has-those, those-lt, lt-of-members}
 use Rattle.sets.proofs.Members.{empty}
@@ -26,14 +26,14 @@ use Rattle.meaning.specs.Tick.{Tick, tick, fiveWords}
 use Rattle.meaning.specs.Run.{State, reading, dueTimers, nextReadings, Ticks, stops, outputShort, inputForeign, Run, ran}
 use Rattle.meaning.specs.SheetRun.{stateOk, tickFrom, stateAfter, sheetTicks, sheetRun}
 use Rattle.meaning.specs.Promises.{RunRounds}
-use Rattle.meaning.proofs.ListLaws.{rowFrom-at, rowFrom-ext, rowFrom-length, rowFrom-getD}
+use Rattle.meaning.proofs.ListLaws.{rowFrom-at, rowFrom-ext, rowFrom-length}
 use Rattle.meaning.proofs.SheetLaws.{Sound, t-le}
 use Rattle.meaning.proofs.TickLaws.{kept, rounds-le, Runs, running-e, running-i, running-none}
 use Rattle.meaning.proofs.RunLaws.{delay-small, Right, right-next, run-rounds}
 use Rattle.reaction.specs.Plan.{sourcesIn, timers, Planned}
 use Rattle.reaction.specs.Rounds.{Before}
 use Rattle.reaction.proofs.PlanLaws.{has-sourcesIn, running-meet}
-use Rattle.clock.proofs.DeadlineLaws.{readingsFrom, reading-from, due-deadlines, readings-word}
+use Rattle.clock.proofs.DeadlineLaws.{readingsFrom, reading-from, due-deadlines, readings-word, start-readings, start-within}
 use Rattle.clock.proofs.RunPlaces.{input-foreign, input-fits, placed, placed-all, placed-stops, placed-more}
 use Rattle.clock.specs.Runs.{endedRun}
 use Rattle.simulator.specs.Runs.{Delays}
@@ -72,23 +72,12 @@ module _ (s : List ℕ) (sd : Sound s) (x : ℕ) (ends : List ℕ) (i : ℕ) (ri
 module _ (s : List ℕ) (sd : Sound s) (x : ℕ) (readings : List ℕ) (h : stateOk s (record { at = x; readings = readings }) ≡ true) where
   pub start-state : length readings ≡ 64 → stateAt s x readings 0 ≡ record { at = x; readings = readings }
   start-state n =
-      ap (λ (l : List ℕ). record { at = x; readings = l })
-      (rowFrom-ext (λ t. cond (has (running s x) t) (getD readings t 0 - 0) 0) (λ t. getD readings t 0) 0 64
-      (λ t a b. at (has (running s x) t) (getD readings t 0) (delay s t) (reading-fits s x readings h t (omega arith)))
-      ∙ sym (rw n at (rowFrom-getD readings 0)))
-    where
-      at : (b : Bool) (v d : ℕ) → T (cond b (leb 1 v && leb v d) (eqb v 0)) → cond b (v - 0) 0 ≡ v
-      at true v d k = sub-zero v
-      at false v d k = sym (eqb→eq v 0 k)
+      ap (λ (l : List ℕ). record { at = x; readings = l }) (start-readings (running s x) (delay s) readings (reading-fits s x readings h) n)
 
   pub start-right : Right s (record { at = x; readings = readings })
   unfolding Right reading
   start-right t k =
-      let v = getD readings t 0 in
-      let r : T (leb 1 v && leb v (delay s t)) =
-      subst (λ (b : Bool). T (cond b (leb 1 v && leb v (delay s t)) (eqb v 0))) (is-true (has (running s x) t) k)
-      (reading-fits s x readings h t (lt-of-lt-of-le (running-e s x t k .small) (t-le s sd))) in
-      (leb→le 1 v (and-l (leb 1 v) (leb v (delay s t)) r), leb→le v (delay s t) (and-r (leb 1 v) (leb v (delay s t)) r))
+      start-within (running s x) (delay s) readings (reading-fits s x readings h) t (lt-of-lt-of-le (running-e s x t k .small) (t-le s sd)) k
 
 -- ---- the deadlines after a tick
 

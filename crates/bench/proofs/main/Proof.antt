@@ -1,6 +1,5 @@
 -- `bench::main` is safe and ends: the numbers counted lie within the array. Assumes nothing.
 use mathlib.Core.Path.{sym}
-use native.Mathlib.Omega.{arith}
 use borrow.Author.Needs.{needs}
 use lib.Seq.{length-take-le}
 use Rattle.bench.proofs.main.Statement.{statement}

@@ -1,7 +1,6 @@
 -- `bench::read_numbers` is safe and ends, and counts no more numbers than the lent words hold. Assumes nothing.
 use mathlib.Core.Path.{_≡_, refl, sym, subst}
 use Prim.Native.Nat.{_≤_}
-use native.Mathlib.Omega.{arith}
 use borrow.Author.Needs.{needs}
 use lib.ListN.{length}
 use Rattle.decimals.proofs.Counts.{Within, within-begun, within-text, within-gap}

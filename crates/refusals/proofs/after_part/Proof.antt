@@ -1,7 +1,6 @@
 -- `refusals::after_part` is safe and ends, and counts no more numbers than the lent words hold. Assumes nothing.
-use mathlib.Core.Path.{_≡_, refl, sym, subst}
+use mathlib.Core.Path.{_≡_}
 use Prim.Native.Nat.{_-_, _≤_}
-use native.Mathlib.Omega.{arith}
 use borrow.Author.Needs.{needs}
 use lib.ListN.{length}
 use Rattle.refusals.proofs.after_part.Statement.{statement}
