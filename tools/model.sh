@@ -8,4 +8,5 @@ rm -rf "$model"
 mkdir -p target
 cp -r ../shared/patterns/code "$model"
 ROOT=$model "$model/tools/native_lib.sh" "$model/lib" > "$model/built" 2>&1
+tools/align.sh "$model/lib/libmc.a"
 echo "$model/lib"
