@@ -4,10 +4,10 @@ ghost use Prim.Native.Nat.{_+_, _≤_, _<_};
 ghost use lib.ListN.{length};
 use super::text;
 use super::text::Input;
-use clock::counts::Rounds;
-use clock::state::State;
 use meaning::refusal::Refusal;
 use meaning::refusal::number;
+use run::counts::Rounds;
+use run::state::State;
 use simulator::sheet_run::Ran;
 
 // The text that is left after a sheet, and how many words it has.

@@ -2,9 +2,9 @@
 use super::cases;
 use super::text;
 use super::text::Input;
-use clock::state::State;
 use meaning::refusal::number;
 use recorder::table_run::Ran;
+use run::state::State;
 
 // Writes the line of a table run, with the digest of its output words.
 fn write_table_run(ran: Ran, outputs: u64) {

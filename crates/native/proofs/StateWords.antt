@@ -7,7 +7,7 @@ use native.Mathlib.Numerals.{add-one, one-add}
 use native.Mathlib.Omega.{arith}
 use lib.ListN.{length, getD, take, drop, set, length-drop, length-set}
 use lib.Seq.{sets, sets-eq, paste, paste-suc, take-all, drop-set-lt, take-suc-set, getD-drop}
-use Rattle.clock.proofs.ArrayLaws.{copy-turn}
+use Rattle.run.proofs.ArrayLaws.{copy-turn}
 use Rattle.meaning.specs.Lists.{overwritten}
 
 -- a row of stores at the front

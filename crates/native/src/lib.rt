@@ -10,8 +10,8 @@ ghost use Rattle.meaning.specs.Lists.{overwritten};
 ghost use Rattle.meaning.specs.Check.{sheetRefusal};
 ghost use Rattle.meaning.specs.Table.{tableOk};
 ghost use Rattle.native.specs.Calls.{compileCall, sheetCall, tableCall};
-use clock::state::State;
 use meaning::refusal::number;
+use run::state::State;
 
 // What is answered where too few words are lent.
 const NOTHING_DONE: u32 = 4294967295;
@@ -47,7 +47,7 @@ pub extern "C" fn modechart_compile(
 pub extern "C" fn modechart_check_table(table: &[u32]) -> u32
     ensures { λ r. ⌜ r ≡ cond (tableOk (now (table .entry))) 0 15 ⌝ }
 {
-    if layout::table_ok(table) {
+    if table::table_ok(table) {
         return 0;
     }
     15

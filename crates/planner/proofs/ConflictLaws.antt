@@ -19,7 +19,7 @@ use Rattle.meaning.specs.Check.{sheetRefusal}
 use Rattle.meaning.specs.Reaction.{conflict, givesWay}
 use Rattle.meaning.proofs.SheetLaws.{parent-n, sound, n-le, t-le, tree, source-lt}
 use Rattle.meaning.proofs.Containment.{ends, within-le}
-use Rattle.moves.specs.Inside.{Insides}
+use Rattle.hierarchy.specs.Inside.{Insides}
 use Rattle.reaction.specs.Plan.{sourcesIn, conflictsOf, yieldersOf}
 use Rattle.reaction.proofs.PlanLaws.{sourcesIn-lt, has-sourcesIn}
 use Rattle.planner.specs.Parts.{Part, fromOf, Meetings}

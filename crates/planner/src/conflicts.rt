@@ -10,7 +10,7 @@ ghost use Rattle.meaning.specs.Lists.{rowFrom};
 ghost use Rattle.meaning.specs.Sheet.{tOf};
 ghost use Rattle.meaning.specs.Check.{sheetRefusal};
 ghost use Rattle.meaning.specs.Reaction.{conflict};
-ghost use Rattle.moves.specs.Inside.{Insides};
+ghost use Rattle.hierarchy.specs.Inside.{Insides};
 ghost use Rattle.reaction.specs.Plan.{conflictsOf, yieldersOf};
 ghost use Rattle.planner.specs.Parts.{Part, fromOf, Meetings};
 use reaction::plan::CONFLICTS;

@@ -9,8 +9,8 @@ mod ends;
 mod hits;
 mod sources;
 
-use moves::complete::start;
-use moves::inside::insides;
+use hierarchy::complete::start;
+use hierarchy::inside::insides;
 use reaction::plan::ENTERS;
 use reaction::plan::EXITS;
 use reaction::plan::GAINS;

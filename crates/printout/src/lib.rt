@@ -4,12 +4,12 @@ ghost use mathlib.Core.Bool.{true};
 ghost use Prim.Native.Nat.{_+_, _*_, _≤_};
 ghost use lib.ListN.{length};
 ghost use Rattle.decimals.specs.Request.{requestOk};
-use clock::state::State;
 use decimals::printer::put_line;
 use decimals::request::request_ok;
 use decimals::request::sheet_length;
 use decimals::request::tick_count;
 use meaning::refusal::number;
+use run::state::State;
 
 fn print_refusal(n: u32) {
     io::write_all(1, b"refused ");

@@ -23,11 +23,11 @@ use Rattle.meaning.specs.Table.{wordIn, kIn, bIn, sourceIn, delayIn, offsetIn, 
 use Rattle.meaning.specs.TableRun.{dueNumber, tableStateOk, cellOf, stateAfterCell, isStale, tableTicks, tableRun}
 use Rattle.meaning.proofs.ListLaws.{rowFrom-ext, rowFrom-length}
 use Rattle.meaning.proofs.TableLaws.{dueNumber-lt}
-use Rattle.clock.specs.Runs.{endedRun}
-use Rattle.clock.proofs.ReadingLaws.{readingFits}
-use Rattle.clock.proofs.DeadlineLaws.{readingsFrom, due-deadlines, readings-word, start-readings, start-within}
-use Rattle.clock.proofs.RunPlaces.{input-foreign, input-below, input-fits, placed, placed-all, placed-stops, placed-more}
-use Rattle.layout.proofs.Sound.{b-pos, timers-first, timers-few, timer-lt, delay-pos, delay-lt, cell-lt, cell-inside, next-lt}
+use Rattle.run.specs.Runs.{endedRun}
+use Rattle.run.proofs.ReadingLaws.{readingFits}
+use Rattle.run.proofs.DeadlineLaws.{readingsFrom, due-deadlines, readings-word, start-readings, start-within}
+use Rattle.run.proofs.RunPlaces.{input-foreign, input-below, input-fits, placed, placed-all, placed-stops, placed-more}
+use Rattle.table.proofs.Sound.{b-pos, timers-first, timers-few, timer-lt, delay-pos, delay-lt, cell-lt, cell-inside, next-lt}
 use Rattle.recorder.specs.Timers.{delayOr0, timersFrom}
 use Rattle.recorder.proofs.RowLaws.{row-at}
 use Rattle.recorder.proofs.TimerLaws.{delay-at}

@@ -16,8 +16,8 @@ use Rattle.meaning.specs.Lists.{rowFrom}
 use Rattle.meaning.specs.Run.{State, reading, isFresh, readingsOk}
 use Rattle.meaning.specs.Table.{bIn, delayIn, timersIn, tableOk}
 use Rattle.meaning.specs.TableRun.{tableStateOk}
-use Rattle.layout.proofs.Sound.{b-pos, timers-first, timer-lt}
-use Rattle.clock.proofs.ReadingLaws.{readingFits, readings-ok-def, readings-ok-at}
+use Rattle.table.proofs.Sound.{b-pos, timers-first, timer-lt}
+use Rattle.run.proofs.ReadingLaws.{readingFits, readings-ok-def, readings-ok-at}
 use Rattle.recorder.specs.Timers.{delayOr0}
 use Rattle.recorder.proofs.TimerLaws.{delay-at}
 

@@ -5,7 +5,7 @@ use Prim.Native.Nat.{ℕ, _+_}
 use Rattle.meaning.specs.Refusal.{numberOf}
 use Rattle.meaning.specs.Run as meaning
 use Rattle.meaning.specs.Table.{offsetIn, timersIn}
-use Rattle.clock.specs.Runs.{stateOf}
+use Rattle.run.specs.Runs.{stateOf}
 use Rattle.recorder.specs.declared.table_run.Ran.{Ran}
 use Rattle.recorder.specs.declared.table_run.Block.{Block}
 

@@ -5,10 +5,10 @@ ghost use Rattle.meaning.specs.Lists.{rowFrom};
 ghost use Rattle.meaning.specs.Table.{tableOk};
 ghost use Rattle.meaning.specs.TableRun.{tableStateOk};
 ghost use Rattle.recorder.specs.Timers.{delayOr0};
-use clock::state::readings_ok;
-use layout::words::block_count;
-use layout::words::offset;
-use layout::words::timers_at;
+use run::state::readings_ok;
+use table::words::block_count;
+use table::words::offset;
+use table::words::timers_at;
 
 // The block exists, and its readings are sound: 14 if not. Block 0 has no timers, so with it the state is fresh.
 pub fn state_ok(table: &[u32], delays: &[u64; 64], block: u32, readings: &[u32; 64]) -> bool

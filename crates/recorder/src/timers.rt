@@ -8,11 +8,11 @@ ghost use Rattle.sets.specs.Sets.{has, setOf, someIn};
 ghost use Rattle.meaning.specs.Lists.{rowFrom};
 ghost use Rattle.meaning.specs.Table.{tableOk};
 ghost use Rattle.recorder.specs.Timers.{delayOr0, timersFrom};
-use layout::words::timer_delay;
-use layout::words::timer_source;
-use layout::words::transition_count;
 use sets::modes;
 use sets::transitions;
+use table::words::timer_delay;
+use table::words::timer_source;
+use table::words::transition_count;
 
 // The delay of each timer, 0 for other transitions.
 pub fn delays(table: &[u32]) -> [u64; 64]

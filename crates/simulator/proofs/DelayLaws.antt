@@ -17,7 +17,7 @@ use Rattle.meaning.proofs.ListLaws.{rowFrom-at, rowFrom-length}
 use Rattle.meaning.proofs.SheetLaws.{Sound}
 use Rattle.meaning.proofs.RunLaws.{delay-small}
 use Rattle.reaction.specs.Plan.{timers, Planned}
-use Rattle.clock.proofs.ArrayLaws.{copy-turn, copy-done}
+use Rattle.run.proofs.ArrayLaws.{copy-turn, copy-done}
 use Rattle.simulator.specs.Runs.{Delays}
 
 -- ---- the delays of the plan, copied word by word

@@ -33,9 +33,9 @@ use Rattle.meaning.proofs.RunLaws.{delay-small, Right, right-next, run-rounds}
 use Rattle.reaction.specs.Plan.{sourcesIn, timers, Planned}
 use Rattle.reaction.specs.Rounds.{Before}
 use Rattle.reaction.proofs.PlanLaws.{has-sourcesIn, running-meet}
-use Rattle.clock.proofs.DeadlineLaws.{readingsFrom, reading-from, due-deadlines, readings-word, start-readings, start-within}
-use Rattle.clock.proofs.RunPlaces.{input-foreign, input-fits, placed, placed-all, placed-stops, placed-more}
-use Rattle.clock.specs.Runs.{endedRun}
+use Rattle.run.proofs.DeadlineLaws.{readingsFrom, reading-from, due-deadlines, readings-word, start-readings, start-within}
+use Rattle.run.proofs.RunPlaces.{input-foreign, input-fits, placed, placed-all, placed-stops, placed-more}
+use Rattle.run.specs.Runs.{endedRun}
 use Rattle.simulator.specs.Runs.{Delays}
 use Rattle.simulator.proofs.DelayLaws.{delay-planned}
 use Rattle.simulator.proofs.StateLaws.{reading-fits}

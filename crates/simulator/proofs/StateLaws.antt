@@ -25,7 +25,7 @@ use Rattle.meaning.specs.Run.{State, reading, isFresh, readingsOk}
 use Rattle.meaning.specs.SheetRun.{stateOk}
 use Rattle.meaning.proofs.SheetLaws.{sound, n-le}
 use Rattle.meaning.proofs.TickLaws.{running-e, running-none}
-use Rattle.clock.proofs.ReadingLaws.{readingFits, readings-ok-def, readings-ok-at}
+use Rattle.run.proofs.ReadingLaws.{readingFits, readings-ok-def, readings-ok-at}
 use Rattle.simulator.specs.Runs.{Delays}
 use Rattle.simulator.proofs.DelayLaws.{delay-planned}
 

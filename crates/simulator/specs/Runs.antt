@@ -9,7 +9,7 @@ use Rattle.meaning.specs.Refusal.{numberOf}
 use Rattle.meaning.specs.Reaction.{delay}
 use Rattle.meaning.specs.Run as meaning
 use Rattle.reaction.specs.Plan.{timers}
-use Rattle.clock.specs.Runs.{totalOf, stateOf}
+use Rattle.run.specs.Runs.{totalOf, stateOf}
 use Rattle.simulator.specs.declared.sheet_run.Ran.{Ran}
 
 -- the delays of the timers, 0 for other transitions

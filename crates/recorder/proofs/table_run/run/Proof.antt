@@ -6,7 +6,7 @@ use borrow.Author.Needs.{needs}
 use Rattle.sets.proofs.Loops.{passed, failed}
 use Rattle.meaning.specs.Table.{tableOk}
 use Rattle.meaning.specs.TableRun.{tableStateOk}
-use Rattle.clock.specs.Runs.{stateOf}
+use Rattle.run.specs.Runs.{stateOf}
 use Rattle.recorder.proofs.RunLaws.{run-bad-table, run-bad-state, run-short, run-ticks}
 use Rattle.recorder.proofs.table_run.run.Statement.{statement}
 use Rattle.recorder.proofs.table_run.run.Tie as tie

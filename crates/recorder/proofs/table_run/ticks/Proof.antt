@@ -16,8 +16,8 @@ use Rattle.rows.specs.Over.{over}
 use Rattle.meaning.specs.Table.{kIn, timersIn, tableOk}
 use Rattle.meaning.specs.Run.{ran}
 use Rattle.meaning.specs.TableRun.{tableStateOk, tableTicks}
-use Rattle.clock.proofs.RunPlaces.{input-below}
-use Rattle.layout.proofs.Sound.{head-sound, k-le}
+use Rattle.run.proofs.RunPlaces.{input-below}
+use Rattle.table.proofs.Sound.{head-sound, k-le}
 use Rattle.recorder.specs.declared.table_run.Block.{Block}
 use Rattle.recorder.specs.Runs.{BlockOf}
 use Rattle.recorder.proofs.TimerLaws.{delays-small}

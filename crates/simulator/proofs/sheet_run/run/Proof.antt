@@ -6,7 +6,7 @@ use borrow.Author.Tests.{not-true, not-false}
 use mathlib.Core.Bool.{true}
 use Rattle.meaning.specs.Check.{sheetRefusal}
 use Rattle.meaning.specs.SheetRun.{stateOk}
-use Rattle.clock.specs.Runs.{stateOf}
+use Rattle.run.specs.Runs.{stateOf}
 use Rattle.simulator.specs.Runs.{Delays}
 use Rattle.simulator.proofs.DelayLaws.{plan-delays}
 use Rattle.simulator.proofs.RunLaws.{run-bad-sheet, run-bad-state, run-short, run-ticks, answered}

@@ -16,8 +16,8 @@ use Rattle.meaning.specs.SheetRun.{stateOk, sheetTicks, tickFrom}
 use Rattle.meaning.proofs.SheetLaws.{Sound, sound, k-le}
 use Rattle.sheet.proofs.Past.{head-read}
 use Rattle.reaction.specs.Rounds.{tickOf}
-use Rattle.clock.specs.Runs.{totalOf}
-use Rattle.clock.proofs.RunPlaces.{input-below}
+use Rattle.run.specs.Runs.{totalOf}
+use Rattle.run.proofs.RunPlaces.{input-below}
 use Rattle.simulator.proofs.DelayLaws.{delay-word}
 use Rattle.simulator.proofs.RunLaws.{stateAt, Kept, kept-start, kept-running, kept-later, kept-done, kept-foreign, tick-now, kept-refused, kept-turn, tick-begins}
 use Rattle.simulator.proofs.sheet_run.ticks.Statement.{statement}

@@ -1,0 +1,321 @@
+-- Completion from a mode down: the depth never matters, the equations by which the code runs, and that it is document 01's
+-- completion. Assumes nothing.
+use mathlib.Core.Path.{_≡_, refl, sym, ap, _∙_, subst}
+use mathlib.Core.Logic.{_⊎_, inl, inr}
+use mathlib.Core.Bool.{Bool, true, false, not, _&&_, cond}
+use mathlib.Core.List.{List}
+use Prim.Native.Nat.{ℕ, zero, suc, _+_, _≤_, _<_}
+use native.Mathlib.Omega.{arith}
+use lib.Dec.{T, eqb, ltb, eqb→eq, leb→le, T-not, not-T}
+use borrow.Author.Tests.{eqb-true, eqb-false, eq-eqb, ne-eqb}
+use Rattle.sets.specs.Sets.{has, union, single, some}
+use Rattle.sets.proofs.Tests.{is-false, of-true, and-l, and-r, and-i, or-e, or-l, or-r, bool-ext}
+use Rattle.sets.proofs.Membership.{same-members}
+use Rattle.sets.proofs.Facts.{union-e, union-l, union-r, single-e, single-i, some-e, some-i}
+use Rattle.meaning.specs.Sheet.{nOf, kind, parent, first, isChild}
+use Rattle.meaning.specs.Check.{modeOk}
+use Rattle.meaning.specs.Hierarchy.{brings, complete}
+use Rattle.meaning.proofs.ListLaws.{allOf-e}
+use Rattle.meaning.proofs.SheetLaws.{parent-n, Sound, n-pos, tree, first-child}
+use Rattle.meaning.proofs.Containment.{Within, here, up, isChild-e, isChild-i}
+use Rattle.meaning.proofs.Completion.{Comp, base, down, complete-e, complete-i, Based}
+use Rattle.hierarchy.specs.Below.{last, gather, kept, belowAt, below, branch}
+use Rattle.hierarchy.proofs.Gather.{last-cases, last-hit, last-miss, last-none, gather-e, gather-i, gather-same, gather-hit, gather-miss, gather-none}
+
+-- a mode's kind by the code's test
+pub serial-of : (k : ℕ) (t : Bool) → t ≡ eqb k 1 → t ≡ true → k ≡ 1
+serial-of k t e h = eqb-true k 1 (sym e ∙ h)
+
+pub other-of : (k : ℕ) (t : Bool) → t ≡ eqb k 1 → t ≡ false → k ≡ 1 → ⊥
+other-of k t e h = eqb-false k 1 (sym e ∙ h)
+
+-- the child that serial mode m takes, as far as the modes below c tell
+abbrev pub keptTo : List ℕ → ℕ → ℕ → ℕ → ℕ
+keptTo s x m c = last (λ i. isChild s m i && has x i) (first s m) c
+
+-- ---- children
+
+module _ (s : List ℕ) (sd : Sound s) where
+  -- a child has a higher number than its parent
+  pub child-above : (p c : ℕ) → c < nOf s → T (isChild s p c) → p < c
+  child-above p c l h = let r = isChild-e s p c h in omega (arith, r .1, tree s sd .lower c (r .0) l)
+
+  pub no-low-child : (m i : ℕ) → m < nOf s → i < m + 1 → isChild s m i ≡ false
+  no-low-child m i l h = is-false (isChild s m i) (λ c. omega (arith, child-above m i (omega arith) c))
+
+  -- a mode with a child is serial or parallel
+  kind-of-parent : (p c : ℕ) → c < nOf s → T (isChild s p c) → (kind s p ≡ 1) ⊎ (kind s p ≡ 2)
+  unfolding modeOk
+  kind-of-parent p c l h = go (kind s p) refl
+    where
+      r : (0 < c) × (parent s c ≡ p)
+      r = isChild-e s p c h
+
+      pn : p < nOf s
+      pn = subst (λ (i : ℕ). i < nOf s) (r .1) (parent-n s (tree s sd) c l)
+
+      some-kind : kind s p ≡ 0 → ⊥
+      some-kind e =
+          T-not (eqb (kind s (parent s c)) 0)
+          (and-r (ltb (parent s c) c) (not (eqb (kind s (parent s c)) 0))
+          (subst (λ (b : Bool). T (cond b (eqb (parent s c) 0) (ltb (parent s c) c && not (eqb (kind s (parent s c)) 0)))) (ne-eqb c 0 (λ z. omega (arith, r .0))) (allOf-e _ (sd .modes c l) .1 .0)))
+          (of-true (eq-eqb (kind s (parent s c)) 0 (ap (kind s) (r .1) ∙ e)))
+
+      most : kind s p ≤ 2
+      most = leb→le (kind s p) 2 (allOf-e _ (sd .modes p pn) .0)
+
+      go : (k : ℕ) → kind s p ≡ k → (kind s p ≡ 1) ⊎ (kind s p ≡ 2)
+      go zero e = absurd (some-kind e)
+      go (suc zero) e = inl e
+      go (suc (suc k)) e = inr (omega (arith, most))
+
+  module _ (x : ℕ) where
+    -- completing mode p, for the set x, takes its child c
+    pub record Step (p c : ℕ) : Type 0 where
+      pub small : c < nOf s
+      pub child : T (isChild s p c)
+      pub only : kind s p ≡ 1 → kept s x p ≡ c
+
+    -- the child that a serial mode takes: its child in x, or else its first mode
+    abbrev Kept : ℕ → Type 0
+    Kept m = ((kept s x m < nOf s) × T (isChild s m (kept s x m) && has x (kept s x m))) ⊎ ((kept s x m ≡ first s m) × ((i : ℕ) → i < nOf s → T (isChild s m i && has x i) → ⊥))
+
+    kept-cases : (m : ℕ) → Kept m
+    unfolding kept
+    kept-cases m = last-cases (λ c. isChild s m c && has x c) (first s m) (nOf s)
+
+    pub kept-step : (m : ℕ) → m < nOf s → kind s m ≡ 1 → Step m (kept s x m)
+    kept-step m l k = go (kept-cases m)
+      where
+        go : Kept m → Step m (kept s x m)
+        go (inl f) = record { small = f .0; child = and-l (isChild s m (kept s x m)) (has x (kept s x m)) (f .1); only = λ _. refl }
+        go (inr f) =
+            let r = first-child s sd m l k in
+            record { small = subst (λ (i : ℕ). i < nOf s) (sym (f .0)) (r .0); child = subst (λ (i : ℕ). T (isChild s m i)) (sym (f .0)) (r .1); only = λ _. refl }
+
+    -- where the code goes from serial mode m
+    pub kept-next : (m c : ℕ) → m < nOf s → kind s m ≡ 1 → c ≡ kept s x m → (m < c) × (c < nOf s)
+    kept-next m c l k e = let t = kept-step m l k in omega (arith, child-above m (kept s x m) (t .small) (t .child), t .small)
+
+    -- the loop that looks for it: its start, its turn at c and its end
+    pub kept-start : (m r : ℕ) → m < nOf s → r ≡ first s m → r ≡ keptTo s x m (m + 1)
+    kept-start m r l e =
+        e ∙ sym (last-none (λ i. isChild s m i && has x i) (first s m) (m + 1) (λ i h. ap (λ (b : Bool). b && has x i) (no-low-child m i l h)))
+
+    pub kept-hit : (m c : ℕ) (b : Bool) → b ≡ (isChild s m c && has x c) → b ≡ true → c ≡ keptTo s x m (c + 1)
+    kept-hit m c b e h = sym (last-hit (λ i. isChild s m i && has x i) (first s m) c (sym e ∙ h))
+
+    pub kept-miss : (m c r : ℕ) (b : Bool) → b ≡ (isChild s m c && has x c) → b ≡ false → r ≡ keptTo s x m c → r ≡ keptTo s x m (c + 1)
+    kept-miss m c r b e h i = i ∙ sym (last-miss (λ j. isChild s m j && has x j) (first s m) c (sym e ∙ h))
+
+    pub kept-end : (m c r : ℕ) → c ≡ nOf s → r ≡ keptTo s x m c → r ≡ kept s x m
+    unfolding kept
+    kept-end m c r e i = i ∙ ap (keptTo s x m) e
+
+    -- ---- the depth never matters
+
+    enough : (f g m : ℕ) → m < nOf s → nOf s ≤ f + m → nOf s ≤ g + m → belowAt s x f m ≡ belowAt s x g m
+    unfolding belowAt
+    enough zero g m l h h′ = absurd (omega arith)
+    enough (suc f) zero m l h h′ = absurd (omega arith)
+    enough (suc f) (suc g) m l h h′ = go (eqb (kind s m) 1) refl (enough f g)
+      where
+        go : (b : Bool) → eqb (kind s m) 1 ≡ b
+            → ((c : ℕ) → c < nOf s → nOf s ≤ f + c → nOf s ≤ g + c → belowAt s x f c ≡ belowAt s x g c)
+            → cond b (union (single (kept s x m)) (belowAt s x f (kept s x m))) (gather (isChild s m) (λ c. union (single c) (belowAt s x f c)) (nOf s))
+            ≡ cond b (union (single (kept s x m)) (belowAt s x g (kept s x m))) (gather (isChild s m) (λ c. union (single c) (belowAt s x g c)) (nOf s))
+        go true e ih =
+            let t = kept-next m (kept s x m) l (eqb-true (kind s m) 1 e) refl in
+            ap (union (single (kept s x m))) (ih (kept s x m) (t .1) (omega (arith, t .0)) (omega (arith, t .0)))
+        go false e ih =
+            gather-same (isChild s m) (λ c. union (single c) (belowAt s x f c)) (λ c. union (single c) (belowAt s x g c)) (nOf s) (λ c k t.
+            let a = child-above m c k t in
+            ap (union (single c)) (ih c k (omega arith) (omega arith)))
+
+    pub below-serial : (m : ℕ) → m < nOf s → kind s m ≡ 1 → below s x m ≡ branch s x (kept s x m)
+    unfolding below belowAt branch
+    below-serial m l k = enough (nOf s) (suc (nOf s)) m l (omega arith) (omega arith) ∙ rw (eq-eqb (kind s m) 1 k)
+
+    pub below-other : (m : ℕ) → m < nOf s → (kind s m ≡ 1 → ⊥) → below s x m ≡ gather (isChild s m) (branch s x) (nOf s)
+    unfolding below belowAt branch
+    below-other m l k = enough (nOf s) (suc (nOf s)) m l (omega arith) (omega arith) ∙ rw (ne-eqb (kind s m) 1 k)
+
+    -- ---- what the code puts together
+
+    -- the branch of a mode, from its set and what is below it
+    pub branch-of : (c b d : ℕ) → b ≡ single c → d ≡ below s x c → union b d ≡ branch s x c
+    unfolding branch
+    branch-of c b d p q = rw (p, q)
+
+    pub serial-done : (m c b d : ℕ) → m < nOf s → kind s m ≡ 1 → c ≡ kept s x m → b ≡ single c → d ≡ below s x c → union b d ≡ below s x m
+    serial-done m c b d l k e p q = branch-of c b d p q ∙ ap (branch s x) e ∙ sym (below-serial m l k)
+
+    -- the turn of the parallel mode's loop at c
+    pub turn-child : (m c r b d : ℕ) (t : Bool) → t ≡ isChild s m c → t ≡ true → r ≡ gather (isChild s m) (branch s x) c → b ≡ single c → d ≡ below s x c
+        → union r (union b d) ≡ gather (isChild s m) (branch s x) (c + 1)
+    turn-child m c r b d t e h i p q = rw (i, branch-of c b d p q) (sym (gather-hit (isChild s m) (branch s x) c (sym e ∙ h)))
+
+    pub turn-start : (m : ℕ) → m < nOf s → 0 ≡ gather (isChild s m) (branch s x) (m + 1)
+    turn-start m l = sym (gather-none (isChild s m) (branch s x) (m + 1) (λ i h. no-low-child m i l h))
+
+    pub turn-other : (m c r : ℕ) (t : Bool) → t ≡ isChild s m c → t ≡ false → r ≡ gather (isChild s m) (branch s x) c → r ≡ gather (isChild s m) (branch s x) (c + 1)
+    turn-other m c r t e h i = i ∙ sym (gather-miss (isChild s m) (branch s x) c (sym e ∙ h))
+
+    pub turn-end : (m c r : ℕ) → m < nOf s → (kind s m ≡ 1 → ⊥) → c ≡ nOf s → r ≡ gather (isChild s m) (branch s x) c → r ≡ below s x m
+    turn-end m c r l k e i = i ∙ ap (gather (isChild s m) (branch s x)) e ∙ sym (below-other m l k)
+
+    -- ---- which modes are in a branch
+
+    branch-e : (m y : ℕ) → T (has (branch s x m) y) → (y ≡ m) ⊎ T (has (below s x m) y)
+    unfolding branch
+    branch-e m y h = go (union-e (single m) (below s x m) y h)
+      where
+        go : T (has (single m) y) ⊎ T (has (below s x m) y) → (y ≡ m) ⊎ T (has (below s x m) y)
+        go (inl a) = inl (single-e m y a)
+        go (inr a) = inr a
+
+    branch-top : (m : ℕ) → T (has (branch s x m) m)
+    unfolding branch
+    branch-top m = union-l (single m) (below s x m) m (single-i m)
+
+    branch-below : (m y : ℕ) → T (has (below s x m) y) → T (has (branch s x m) y)
+    unfolding branch
+    branch-below m y h = union-r (single m) (below s x m) y h
+
+    -- a child that m takes, and what its branch holds
+    below-e : (m y : ℕ) → m < nOf s → T (has (below s x m) y) → (c : ℕ) × Step m c × T (has (branch s x c) y)
+    below-e m y l h = go (eqb (kind s m) 1) refl
+      where
+        go : (b : Bool) → eqb (kind s m) 1 ≡ b → (c : ℕ) × Step m c × T (has (branch s x c) y)
+        go true e =
+            let k = eqb-true (kind s m) 1 e in
+            (kept s x m, kept-step m l k, subst (λ (z : ℕ). T (has z y)) (below-serial m l k) h)
+        go false e =
+            let k = eqb-false (kind s m) 1 e in
+            let r = gather-e (isChild s m) (branch s x) (nOf s) y (subst (λ (z : ℕ). T (has z y)) (below-other m l k) h) in
+            (r .0, record { small = r .1; child = r .2; only = λ q. absurd (k q) }, r .3)
+
+    below-i : (m c y : ℕ) → m < nOf s → Step m c → T (has (branch s x c) y) → T (has (below s x m) y)
+    below-i m c y l t h = go (eqb (kind s m) 1) refl
+      where
+        go : (b : Bool) → eqb (kind s m) 1 ≡ b → T (has (below s x m) y)
+        go true e =
+            let k = eqb-true (kind s m) 1 e in
+            subst (λ (z : ℕ). T (has z y)) (sym (below-serial m l k ∙ ap (branch s x) (t .only k))) h
+        go false e =
+            subst (λ (z : ℕ). T (has z y)) (sym (below-other m l (eqb-false (kind s m) 1 e)))
+            (gather-i (isChild s m) (branch s x) (nOf s) y c (t .small) (t .child) h)
+
+    -- with a mode of the branch, the children that it takes
+    branch-step : (k m p c : ℕ) → m < nOf s → nOf s ≤ k + m → T (has (branch s x m) p) → Step p c → T (has (branch s x m) c)
+    branch-step zero m p c l b h t = absurd (omega arith)
+    branch-step (suc k) m p c l b h t = go (branch-e m p h) (branch-step k)
+      where
+        go : (p ≡ m) ⊎ T (has (below s x m) p)
+            → ((d q y : ℕ) → d < nOf s → nOf s ≤ k + d → T (has (branch s x d) q) → Step q y → T (has (branch s x d) y)) → T (has (branch s x m) c)
+        go (inl e) ih = branch-below m c (below-i m c c l (subst (λ (i : ℕ). Step i c) e t) (branch-top c))
+        go (inr a) ih =
+            let r = below-e m p l a in
+            let d = r .0 in
+            branch-below m c (below-i m d c l (r .1) (ih d p c (r .1 .small) (omega (arith, child-above m d (r .1 .small) (r .1 .child))) (r .2) t))
+
+    -- ---- the branch is document 01's completion
+
+    -- a child that p brings in is taken
+    brought : (p m : ℕ) → m < nOf s → T (isChild s p m) → T (brings s x p m) → Step p m
+    unfolding brings
+    brought p m l c h = record { small = l; child = c; only = go (or-e (eqb (kind s p) 2) (eqb (kind s p) 1 && eqb (first s p) m && not (some (nOf s) (λ i. isChild s p i && has x i))) h) }
+      where
+        go : T (eqb (kind s p) 2) ⊎ T (eqb (kind s p) 1 && eqb (first s p) m && not (some (nOf s) (λ i. isChild s p i && has x i))) → kind s p ≡ 1 → kept s x p ≡ m
+        go (inl a) k = absurd (omega (arith, eqb→eq (kind s p) 2 a))
+        go (inr a) k = at (kept-cases p)
+          where
+            is-first : first s p ≡ m
+            is-first = eqb→eq (first s p) m (and-r (eqb (kind s p) 1) (eqb (first s p) m) (and-l (eqb (kind s p) 1 && eqb (first s p) m) (not (some (nOf s) (λ i. isChild s p i && has x i))) a))
+
+            at : Kept p → kept s x p ≡ m
+            at (inl f) =
+                absurd (T-not (some (nOf s) (λ i. isChild s p i && has x i)) (and-r (eqb (kind s p) 1 && eqb (first s p) m) (not (some (nOf s) (λ i. isChild s p i && has x i))) a)
+                (some-i (nOf s) (λ i. isChild s p i && has x i) (kept s x p) (f .0) (f .1)))
+            at (inr f) = f .0 ∙ is-first
+
+    -- a child that is taken is in x, or p brings it in
+    taken : (p m : ℕ) → Step p m → Comp s x p → Comp s x m
+    taken p m t c = go (kind-of-parent p m (t .small) (t .child))
+      where
+        r : (0 < m) × (parent s m ≡ p)
+        r = isChild-e s p m (t .child)
+
+        bring : T (brings s x p m) → Comp s x m
+        bring b = down (r .0) (subst (λ (i : ℕ). T (brings s x i m)) (sym (r .1)) b) (subst (λ (i : ℕ). Comp s x i) (sym (r .1)) c)
+
+        serial : kind s p ≡ 1 → Kept p → Comp s x m
+        serial k (inl f) = base (subst (λ (i : ℕ). T (has x i)) (t .only k) (and-r (isChild s p (kept s x p)) (has x (kept s x p)) (f .1)))
+        serial k (inr f) =
+            bring (unfold brings in (or-r (eqb (kind s p) 2) (eqb (kind s p) 1 && eqb (first s p) m && not (some (nOf s) (λ i. isChild s p i && has x i)))
+            (and-i (eqb (kind s p) 1 && eqb (first s p) m) (not (some (nOf s) (λ i. isChild s p i && has x i)))
+            (and-i (eqb (kind s p) 1) (eqb (first s p) m) (of-true (eq-eqb (kind s p) 1 k)) (of-true (eq-eqb (first s p) m (sym (f .0) ∙ t .only k))))
+            (not-T (some (nOf s) (λ i. isChild s p i && has x i)) (λ h. let q = some-e (nOf s) (λ i. isChild s p i && has x i) h in f .1 (q .0) (q .1) (q .2))))))
+
+        go : (kind s p ≡ 1) ⊎ (kind s p ≡ 2) → Comp s x m
+        go (inl k) = serial k (kept-cases p)
+        go (inr k) =
+            bring (unfold brings in (or-l (eqb (kind s p) 2) (eqb (kind s p) 1 && eqb (first s p) m && not (some (nOf s) (λ i. isChild s p i && has x i))) (of-true (eq-eqb (kind s p) 2 k))))
+
+    -- the branch of a mode of x completed is in x completed
+    branch-comp : (k m y : ℕ) → m < nOf s → nOf s ≤ k + m → Comp s x m → T (has (branch s x m) y) → (y < nOf s) × Comp s x y
+    branch-comp zero m y l b c h = absurd (omega arith)
+    branch-comp (suc k) m y l b c h = go (branch-e m y h) (branch-comp k)
+      where
+        go : (y ≡ m) ⊎ T (has (below s x m) y)
+            → ((d z : ℕ) → d < nOf s → nOf s ≤ k + d → Comp s x d → T (has (branch s x d) z) → (z < nOf s) × Comp s x z) → (y < nOf s) × Comp s x y
+        go (inl e) ih = (subst (λ (i : ℕ). i < nOf s) (sym e) l, subst (λ (i : ℕ). Comp s x i) (sym e) c)
+        go (inr a) ih =
+            let r = below-e m y l a in
+            let d = r .0 in
+            ih d y (r .1 .small) (omega (arith, child-above m d (r .1 .small) (r .1 .child))) (taken m d (r .1) c) (r .2)
+
+    module _ (e : ℕ) (en : e < nOf s) (b : Based s x e) where
+      -- a serial mode with a child in x takes that child
+      keeps : (p m : ℕ) → m < nOf s → T (isChild s p m) → T (has x m) → Step p m
+      keeps p m l c h = record { small = l; child = c; only = λ k. go (kept-cases p) }
+        where
+          go : Kept p → kept s x p ≡ m
+          go (inl f) =
+              let d = kept s x p in
+              let r = isChild-e s p d (and-l (isChild s p d) (has x d) (f .1)) in
+              let q = isChild-e s p m c in
+              b .lone d m (f .0) l (r .0) (q .0) (r .1 ∙ sym (q .1)) (and-r (isChild s p d) (has x d) (f .1)) h
+          go (inr f) = absurd (f .1 m l (and-i (isChild s p m) (has x m) c h))
+
+      grown : (p m : ℕ) → Step p m → T (has (branch s x e) p) → T (has (branch s x e) m)
+      grown p m t h = branch-step (nOf s) e p m en (omega arith) h t
+
+      member-in : {m : ℕ} → Within s e m → m < nOf s → T (has x m) → T (has (branch s x e) m)
+      member-in here l h = branch-top e
+      member-in (up {m} p w) l h = go (eqb m e) refl (λ g. member-in w (parent-n s (tree s sd) m l) g)
+        where
+          go : (v : Bool) → eqb m e ≡ v → (T (has x (parent s m)) → T (has (branch s x e) (parent s m))) → T (has (branch s x e) m)
+          go true q ih = subst (λ (i : ℕ). T (has (branch s x e) i)) (sym (eqb-true m e q)) (branch-top e)
+          go false q ih = grown (parent s m) m (keeps (parent s m) m l (isChild-i s (parent s m) m p refl) h) (ih (b .linked m l h (eqb-false m e q)))
+
+      comp-in : {m : ℕ} → Comp s x m → m < nOf s → T (has (branch s x e) m)
+      comp-in (base {m} h) l = member-in (b .below m l h) l h
+      comp-in (down {m} p g c) l = grown (parent s m) m (brought (parent s m) m l (isChild-i s (parent s m) m p refl) g) (comp-in c (parent-n s (tree s sd) m l))
+
+      pub complete-branch : complete s x ≡ branch s x e
+      complete-branch =
+          same-members (λ i. bool-ext (has (complete s x) i) (has (branch s x e) i)
+          (λ h. let r = complete-e s sd x i h in comp-in (r .1) (r .0))
+          (λ h. let r = branch-comp (nOf s) e i en (omega arith) (base (b .top)) h in complete-i s sd x i (r .0) (r .1)))
+
+  -- the root completed
+  pub complete-root : complete s (single 0) ≡ branch s (single 0) 0
+  complete-root =
+      complete-branch (single 0) 0 (n-pos s sd)
+      (record {
+        below = λ m l h. subst (λ (i : ℕ). Within s 0 i) (sym (single-e 0 m h)) here;
+        top = single-i 0;
+        linked = λ m l h ne. absurd (ne (single-e 0 m h));
+        lone = λ y z ly lz py pz e h k. single-e 0 y h ∙ sym (single-e 0 z k);
+      })

@@ -1,0 +1,103 @@
+-- The highest number below k that passes a test, and the union of sets over the numbers below k that pass one: what each holds,
+-- and one turn of the loop that makes it. Assumes nothing.
+use mathlib.Core.Path.{_≡_, refl, ap₂, subst}
+use mathlib.Core.Logic.{_⊎_, inl, inr}
+use mathlib.Core.Bool.{Bool, true, false, cond}
+use Prim.Native.Nat.{ℕ, zero, suc, _+_, _<_}
+use native.Mathlib.Nat.{le-refl, not-suc-le-zero, le-of-suc-le-suc, eq-or-lt-of-le}
+use native.Mathlib.Numerals.{add-one}
+use native.Mathlib.Omega.{arith}
+use lib.Dec.{T}
+use Rattle.sets.specs.Sets.{has, union}
+use Rattle.sets.proofs.Tests.{of-true, of-false}
+use Rattle.sets.proofs.Membership.{has-none}
+use Rattle.sets.proofs.Facts.{union-e, union-l, union-r}
+use Rattle.hierarchy.specs.Below.{last, gather}
+
+-- ---- the highest number below k that passes p, or d
+
+module _ (p : ℕ → Bool) (d : ℕ) where
+  -- it passes, or none does and it is d
+  pub last-cases : (k : ℕ) → ((last p d k < k) × T (p (last p d k))) ⊎ ((last p d k ≡ d) × ((i : ℕ) → i < k → T (p i) → ⊥))
+  unfolding last
+  last-cases zero = inr (refl, λ i l. absurd (not-suc-le-zero l))
+  last-cases (suc k) = go (p k) refl (last-cases k)
+    where
+      none : p k ≡ false → ((i : ℕ) → i < k → T (p i) → ⊥) → (i : ℕ) → i < suc k → T (p i) → ⊥
+      none e f i l h = at (eq-or-lt-of-le (le-of-suc-le-suc l))
+        where
+          at : (i ≡ k) ⊎ (i < k) → ⊥
+          at (inl q) = of-false e (subst (λ (j : ℕ). T (p j)) q h)
+          at (inr q) = f i q h
+
+      go : (b : Bool) → p k ≡ b → ((last p d k < k) × T (p (last p d k))) ⊎ ((last p d k ≡ d) × ((i : ℕ) → i < k → T (p i) → ⊥))
+          → ((cond b k (last p d k) < suc k) × T (p (cond b k (last p d k)))) ⊎ ((cond b k (last p d k) ≡ d) × ((i : ℕ) → i < suc k → T (p i) → ⊥))
+      go true e ih = inl (le-refl (suc k), of-true e)
+      go false e (inl f) = inl (omega (arith, f .0), f .1)
+      go false e (inr f) = inr (f .0, none e (f .1))
+
+  pub last-hit : (k : ℕ) → p k ≡ true → last p d (k + 1) ≡ k
+  unfolding last
+  last-hit k e = rw (add-one, e)
+
+  pub last-miss : (k : ℕ) → p k ≡ false → last p d (k + 1) ≡ last p d k
+  unfolding last
+  last-miss k e = rw (add-one, e)
+
+  pub last-none : (k : ℕ) → ((i : ℕ) → i < k → p i ≡ false) → last p d k ≡ d
+  last-none k f = go (last-cases k)
+    where
+      go : ((last p d k < k) × T (p (last p d k))) ⊎ ((last p d k ≡ d) × ((i : ℕ) → i < k → T (p i) → ⊥)) → last p d k ≡ d
+      go (inl h) = absurd (of-false (f (last p d k) (h .0)) (h .1))
+      go (inr h) = h .0
+
+-- ---- the union of g i over the numbers i below k that pass p
+
+module _ (p : ℕ → Bool) (g : ℕ → ℕ) where
+  pub gather-e : (k y : ℕ) → T (has (gather p g k) y) → (c : ℕ) × (c < k) × T (p c) × T (has (g c) y)
+  unfolding gather
+  gather-e zero y h = absurd (of-false (has-none y) h)
+  gather-e (suc k) y h = go (p k) refl h (gather-e k y)
+    where
+      go : (b : Bool) → p k ≡ b → T (has (cond b (union (gather p g k) (g k)) (gather p g k)) y)
+          → (T (has (gather p g k) y) → (c : ℕ) × (c < k) × T (p c) × T (has (g c) y)) → (c : ℕ) × (c < suc k) × T (p c) × T (has (g c) y)
+      go false e j ih = let r = ih j in (r .0, omega (arith, r .1), r .2, r .3)
+      go true e j ih = at (union-e (gather p g k) (g k) y j)
+        where
+          at : T (has (gather p g k) y) ⊎ T (has (g k) y) → (c : ℕ) × (c < suc k) × T (p c) × T (has (g c) y)
+          at (inl a) = let r = ih a in (r .0, omega (arith, r .1), r .2, r .3)
+          at (inr a) = (k, le-refl (suc k), of-true e, a)
+
+  pub gather-i : (k y c : ℕ) → c < k → T (p c) → T (has (g c) y) → T (has (gather p g k) y)
+  unfolding gather
+  gather-i zero y c l e h = absurd (not-suc-le-zero l)
+  gather-i (suc k) y c l e h = go (p k) refl (eq-or-lt-of-le (le-of-suc-le-suc l)) (λ i. gather-i k y c i e h)
+    where
+      go : (b : Bool) → p k ≡ b → (c ≡ k) ⊎ (c < k) → (c < k → T (has (gather p g k) y)) → T (has (cond b (union (gather p g k) (g k)) (gather p g k)) y)
+      go true q (inl i) ih = union-r (gather p g k) (g k) y (subst (λ (j : ℕ). T (has (g j) y)) i h)
+      go true q (inr i) ih = union-l (gather p g k) (g k) y (ih i)
+      go false q (inl i) ih = absurd (of-false q (subst (λ (j : ℕ). T (p j)) i e))
+      go false q (inr i) ih = ih i
+
+  pub gather-hit : (k : ℕ) → p k ≡ true → gather p g (k + 1) ≡ union (gather p g k) (g k)
+  unfolding gather
+  gather-hit k e = rw (add-one, e)
+
+  pub gather-miss : (k : ℕ) → p k ≡ false → gather p g (k + 1) ≡ gather p g k
+  unfolding gather
+  gather-miss k e = rw (add-one, e)
+
+  pub gather-none : (k : ℕ) → ((i : ℕ) → i < k → p i ≡ false) → gather p g k ≡ 0
+  unfolding gather
+  gather-none zero f = refl
+  gather-none (suc k) f = rw (f k (omega arith)) (gather-none k (λ i l. f i (omega arith)))
+
+  pub gather-same : (g′ : ℕ → ℕ) (k : ℕ) → ((c : ℕ) → c < k → T (p c) → g c ≡ g′ c) → gather p g k ≡ gather p g′ k
+  unfolding gather
+  gather-same g′ zero f = refl
+  gather-same g′ (suc k) f = go (p k) refl (gather-same g′ k (λ c l e. f c (omega arith) e))
+    where
+      go : (b : Bool) → p k ≡ b → gather p g k ≡ gather p g′ k
+          → cond b (union (gather p g k) (g k)) (gather p g k) ≡ cond b (union (gather p g′ k) (g′ k)) (gather p g′ k)
+      go true e ih = ap₂ union ih (f k (le-refl (suc k)) (of-true e))
+      go false e ih = ih

@@ -1,0 +1,68 @@
+-- Readings by deadlines: the reading of a timer that runs is its deadline less the ticks done. Assumes nothing.
+use mathlib.Core.Path.{_≡_, sym, ap, _∙_, subst}
+use mathlib.Core.Bool.{Bool, true, false, _&&_, cond}
+use mathlib.Core.List.{List}
+use Prim.Native.Nat.{ℕ, _+_, _-_, _%_, _^_, _≤_, _<_}
+use native.Mathlib.Nat.{zero-add, sub-zero, mod-eq-of-lt}
+use native.Mathlib.Omega.{arith}
+use lib.Dec.{T, eqb, leb, eqb→eq, leb→le}
+use lib.ListN.{length, getD}
+use borrow.Author.Tests.{eq-eqb}
+use Rattle.sets.specs.Sets.{has, those}
+use Rattle.sets.proofs.Tests.{is-true, of-true, and-l, and-r, bool-ext, cond-ext}
+use Rattle.sets.proofs.Membership.{those-same}
+use Rattle.meaning.specs.Lists.{rowFrom}
+use Rattle.meaning.specs.Run.{reading, dueTimers}
+use Rattle.meaning.proofs.ListLaws.{rowFrom-at, rowFrom-ext, rowFrom-getD}
+use Rattle.run.proofs.ReadingLaws.{readingFits}
+
+-- the readings after i ticks, of timers with these deadlines
+abbrev pub readingsFrom : ℕ → List ℕ → ℕ → List ℕ
+readingsFrom timers ends i = rowFrom 0 64 (λ t. cond (has timers t) (getD ends t 0 - i) 0)
+
+module _ (timers : ℕ) (ends : List ℕ) (i : ℕ) where
+  pub reading-from : (t : ℕ) → t < 64 → T (has timers t) → getD (readingsFrom timers ends i) t 0 ≡ getD ends t 0 - i
+  reading-from t l h =
+      let f : ℕ → ℕ = λ u. cond (has timers u) (getD ends u 0 - i) 0 in
+      rowFrom-at f 0 0 64 t l ∙ ap f (zero-add t) ∙ ap (λ (b : Bool). cond b (getD ends t 0 - i) 0) (is-true (has timers t) h)
+
+  -- a timer is due in the tick of its deadline
+  pub due-deadlines : ((t : ℕ) → t < 64 → T (has timers t) → i < getD ends t 0) → (at : ℕ)
+      → those 64 timers (λ t. eqb (getD ends t 0) (i + 1)) ≡ dueTimers timers (record { at = at; readings = readingsFrom timers ends i })
+  unfolding dueTimers reading
+  due-deadlines later at =
+      those-same 64 timers (λ t. eqb (getD ends t 0) (i + 1)) (λ t. eqb (getD (readingsFrom timers ends i) t 0 - 1) 0)
+      (λ t l h. ahead (getD ends t 0) (later t l (of-true h)) ∙ ap (λ (r : ℕ). eqb (r - 1) 0) (sym (reading-from t l (of-true h))))
+    where
+      ahead : (e : ℕ) → i < e → eqb e (i + 1) ≡ eqb (e - i - 1) 0
+      ahead e l =
+          bool-ext (eqb e (i + 1)) (eqb (e - i - 1) 0)
+          (λ h. let k = eqb→eq e (i + 1) h in of-true (eq-eqb (e - i - 1) 0 (omega arith)))
+          (λ h. let k = eqb→eq (e - i - 1) 0 h in of-true (eq-eqb e (i + 1) (omega arith)))
+
+  -- a reading fits its word
+  pub readings-word : ((t : ℕ) → t < 64 → T (has timers t) → getD ends t 0 - i < 2 ^ 32)
+      → rowFrom 0 64 (λ t. cond (has timers t) ((getD ends t 0 - i) % 2 ^ 32) 0) ≡ readingsFrom timers ends i
+  readings-word small =
+      rowFrom-ext (λ t. cond (has timers t) ((getD ends t 0 - i) % 2 ^ 32) 0) (λ t. cond (has timers t) (getD ends t 0 - i) 0) 0 64
+      (λ t a b. cond-ext (has timers t) ((getD ends t 0 - i) % 2 ^ 32) (getD ends t 0 - i) 0 (λ h. mod-eq-of-lt (small t (omega arith) h)))
+
+-- ---- at the start of a call the deadlines are the readings, where these are sound
+
+module _ (timers : ℕ) (delayOf : ℕ → ℕ) (readings : List ℕ) (sound : (t : ℕ) → t < 64 → T (readingFits timers delayOf readings t)) where
+  pub start-readings : length readings ≡ 64 → readingsFrom timers readings 0 ≡ readings
+  start-readings n =
+      rowFrom-ext (λ t. cond (has timers t) (getD readings t 0 - 0) 0) (λ t. getD readings t 0) 0 64
+      (λ t a b. at (has timers t) (getD readings t 0) (delayOf t) (sound t (omega arith)))
+      ∙ sym (rw n at (rowFrom-getD readings 0))
+    where
+      at : (b : Bool) (v d : ℕ) → T (cond b (leb 1 v && leb v d) (eqb v 0)) → cond b (v - 0) 0 ≡ v
+      at true v d k = sub-zero v
+      at false v d k = sym (eqb→eq v 0 k)
+
+  pub start-within : (t : ℕ) → t < 64 → T (has timers t) → (1 ≤ getD readings t 0) × (getD readings t 0 ≤ delayOf t)
+  start-within t l k =
+      let v = getD readings t 0 in
+      let r : T (leb 1 v && leb v (delayOf t)) =
+      subst (λ (b : Bool). T (cond b (leb 1 v && leb v (delayOf t)) (eqb v 0))) (is-true (has timers t) k) (sound t l) in
+      (leb→le 1 v (and-l (leb 1 v) (leb v (delayOf t)) r), leb→le v (delayOf t) (and-r (leb 1 v) (leb v (delayOf t)) r))
