@@ -8,7 +8,10 @@ pub mod Fuel
 pub mod TickLaws
 pub mod Consistency
 pub mod AnyOrder
+pub mod RefusalLaws
 pub mod RunLaws
+pub mod ReadingLaws
+pub mod SheetTicksLaws
 pub mod TickInWordsLaws
 pub mod WalkFuel
 pub mod WalkLaws

@@ -1,151 +1,205 @@
--- Laws of readings: every running reading stays 1 to its delay; the rounds of a run. Assumes nothing.
-use mathlib.Core.Path.{_≡_, refl, sym, ap, _∙_, subst}
-use mathlib.Core.Logic.{_⊎_, inl, inr}
-use mathlib.Core.Bool.{Bool, true, false, not, _&&_, cond}
-use mathlib.Core.List.{List, [], _∷_}
-use Prim.Native.Nat.{ℕ, _-_, _*_, _^_, _≤_, _<_, zero-le}
-use native.Mathlib.Nat.{zero-add, mul-suc, lt-of-lt-of-le}
+-- Laws of runs, over any step: how ticks end, a run split at any place, what done ticks keep, what is refused before any tick.
+-- Assumes nothing.
+use mathlib.Core.Path.{_≡_, refl, sym, ap, ap₂, _∙_, subst}
+use mathlib.Core.Bool.{Bool, true, false, not, cond}
+use mathlib.Core.List.{List, [], _∷_, _++_, append-assoc}
+use Prim.Native.Nat.{ℕ, suc, _+_, _*_, _≤_, zero-le}
+use native.Mathlib.Nat.{zero-add, add-assoc, mul-suc}
 use native.Mathlib.Omega.{arith}
-use lib.Dec.{T, eqb, leb, ltb, eqb→eq, leb→le, ltb→lt}
-use lib.ListN.{getD}
-use borrow.Author.Tests.{eqb-false}
-use Rattle.sets.specs.Sets.{has}
-use Rattle.sets.proofs.Tests.{is-true, is-false, and-l, and-r, and-i}
-use Rattle.sets.proofs.Membership.{has-none}
-use Rattle.sets.proofs.Those.{has-those}
-use Rattle.meaning.specs.Sheet.{nOf, kOf, tOf, recordLength, source, termCount, termKind, termValue}
-use Rattle.meaning.specs.Check.{pairOk, termOk}
-use Rattle.meaning.specs.Reaction.{TickSets, isDelay, delay, isTimer, running}
-use Rattle.meaning.specs.Tick.{Tick, tick, fiveWords}
-use Rattle.meaning.specs.Run.{State, reading, dueTimers, nextReadings, Ticks, stops, tickThen, inputForeign}
-use Rattle.meaning.specs.SheetRun.{tickFrom, stateAfter, sheetTicks}
-use Rattle.meaning.specs.Promises.{RunRounds}
-use Rattle.meaning.proofs.ListLaws.{allOf-e, rowFrom-at}
-use Rattle.meaning.proofs.SheetLaws.{Sound, t-le}
-use Rattle.meaning.proofs.TickLaws.{kept, not-due, rounds-le, Runs, running-e, running-i}
+use lib.Dec.{eqb}
+use lib.ListN.{length, length-append}
+use borrow.Author.Tests.{eqb-true, eqb-false, eq-eqb, ne-eqb}
+use Rattle.meaning.specs.Lists.{refusedIf, firstRefusal}
+use Rattle.meaning.specs.Run.{State, Step, Ticks, stops, tickThen, outputShort, inputForeign, Run, ran, tickRefusal, ticks, run}
+use Rattle.meaning.proofs.RefusalLaws.{first-met, first-passed, first-alone, none-met, unmet}
 
--- the reading of t after a tick
-pub next-reading : (timers entered : ℕ) (sourceOf delayOf : ℕ → ℕ) (q : State) (t : ℕ) → t < 64
-    → getD (nextReadings timers entered sourceOf delayOf q) t 0
-    ≡ cond (has timers t) (cond (has entered (sourceOf t)) (delayOf t) (reading q t - 1)) 0
-unfolding nextReadings
-next-reading timers entered sourceOf delayOf q t l =
-    let f : ℕ → ℕ = λ u. cond (has timers u) (cond (has entered (sourceOf u)) (delayOf u) (reading q u - 1)) 0 in
-    rowFrom-at f 0 0 64 t l ∙ ap f (zero-add t)
+-- the ticks a, none of them refused, then the ticks b
+unfoldable pub ticksThen : Ticks → Ticks → Ticks
+ticksThen a b =
+    record { done = a .done + b .done; state = b .state; refusal = b .refusal; words = a .words ++ b .words; rounds = a .rounds + b .rounds }
 
--- a timer is due where it runs and its lowered reading is 0
-pub due-at : (timers : ℕ) (q : State) (t : ℕ) → t < 64 → has (dueTimers timers q) t ≡ (has timers t && eqb (reading q t - 1) 0)
-unfolding dueTimers
-due-at timers q t l = has-those 64 timers (λ u. eqb (reading q u - 1) 0) t l
+module _ (k : ℕ) (step : State → ℕ → Step) where
+  -- ---- one tick
 
--- a timer's delay is 1 or more
-pub delay-pos : (s : List ℕ) (t : ℕ) → T (isTimer s t) → 1 ≤ delay s t
-unfolding isTimer
-delay-pos s t h = ltb→lt 0 (delay s t) (and-r (isDelay s t) (ltb 0 (delay s t)) h)
+  module _ (q : State) (i : ℕ) where
+    -- a foreign set is refused 13; on any other the step decides
+    pub tick-foreign : inputForeign k i ≡ true → tickRefusal k step q i ≡ 13
+    unfolding tickRefusal refusedIf
+    tick-foreign e = rw e (first-met 13 (step q i .refusal ∷ []) (λ z. omega arith))
 
--- and at most 65,535
-module _ (s : List ℕ) (sd : Sound s) where
-  has-term : (t : ℕ) → t < tOf s → 0 < termCount s t
-  unfolding termCount pairOk
-  has-term t l = let h = leb→le 4 (recordLength s t) (allOf-e _ (sd .pairs t l) .1 .1 .0) in omega arith
+    pub tick-known : inputForeign k i ≡ false → tickRefusal k step q i ≡ step q i .refusal
+    unfolding tickRefusal refusedIf
+    tick-known e = rw e (first-passed 0 (step q i .refusal ∷ []) refl ∙ first-alone (step q i .refusal))
 
-  first-term : (t : ℕ) → T (termOk s t 0) → termKind s t 0 ≡ 0 → termValue s t 0 ≤ 65535
-  unfolding termOk
-  first-term t h z =
-      leb→le (termValue s t 0) 65535
-      (and-r (eqb (termCount s t) 1) (leb (termValue s t 0) 65535)
-      (subst (λ (k : ℕ). T (getD
-      ((eqb (termCount s t) 1 && leb (termValue s t 0) 65535) ∷ ltb (termValue s t 0) (kOf s) ∷ ltb (termValue s t 0) (kOf s)
-      ∷ (ltb 0 (termValue s t 0) && ltb (termValue s t 0) (2 ^ nOf s)) ∷ ltb (termValue s t 0) (nOf s) ∷ ltb (termValue s t 0) (nOf s) ∷ ltb (termValue s t 0) (tOf s)
-      ∷ (eqb (termValue s t 0) 0 && ltb 0 0 && ltb 1 (termCount s t) && not (eqb (termKind s t 1) 7)) ∷ []) k false)) z h))
+    -- a tick that is not refused
+    pub tick-done : tickRefusal k step q i ≡ 0 → (inputForeign k i ≡ false) × (step q i .refusal ≡ 0)
+    unfolding tickRefusal
+    tick-done h =
+        let n = none-met (refusedIf (inputForeign k i) 13) (step q i .refusal ∷ []) h in
+        (unmet (inputForeign k i) 13 (λ z. omega arith) (n .0), sym (first-alone (step q i .refusal)) ∙ n .1)
 
-  pub delay-small : (t : ℕ) → t < tOf s → T (isTimer s t) → delay s t < 65536
-  unfolding isTimer isDelay delay
-  delay-small t l h =
-      let z = eqb→eq (termKind s t 0) 0 (and-l (isDelay s t) (ltb 0 (delay s t)) h) in
-      omega (arith, first-term t (sd .terms t l 0 (has-term t l)) z)
+  -- ---- the ticks of a list: none, one that is refused, one that is done and the rest
 
-module _ (s : List ℕ) where
-  -- every running reading is 1 to its delay
-  unfoldable pub Right : State → Type 0
-  Right p = (t : ℕ) → T (has (running s (p .at)) t) → (1 ≤ reading p t) × (reading p t ≤ delay s t)
+  pub ticks-end : (q : State) → ticks k step [] q ≡ stops 0 q
+  unfolding ticks
+  ticks-end q = refl
 
-  pub right-fresh : (p : State) → p .at ≡ 0 → Right p
-  unfolding Right
-  right-fresh p e t r = absurd (subst T (ap (λ (x : ℕ). has x (source s t)) e ∙ has-none (source s t)) (running-e s (p .at) t r .on))
+  pub ticks-refused : (i : ℕ) (is : List ℕ) (q : State) → (tickRefusal k step q i ≡ 0 → ⊥) → ticks k step (i ∷ is) q ≡ stops (tickRefusal k step q i) q
+  unfolding ticks
+  ticks-refused i is q n = rw (ne-eqb (tickRefusal k step q i) 0 n) refl
 
-  pub right-next : Sound s → (p : State) (i : ℕ) → Right p → tickFrom s p i .refusal ≡ 0 → Right (stateAfter s p (tickFrom s p i .sets))
-  unfolding Right tickFrom stateAfter
-  right-next sd p i h e t r = go (has (z .entered) (source s t)) refl
+  pub ticks-foreign : (i : ℕ) (is : List ℕ) (q : State) → inputForeign k i ≡ true → ticks k step (i ∷ is) q ≡ stops 13 q
+  ticks-foreign i is q e =
+      let z = tick-foreign q i e in
+      ticks-refused i is q (λ h. omega arith) ∙ ap (λ (n : ℕ). stops n q) z
+
+  pub ticks-go : (i : ℕ) (is : List ℕ) (q : State) → tickRefusal k step q i ≡ 0
+      → ticks k step (i ∷ is) q ≡ tickThen (step q i) (ticks k step is (step q i .state))
+  unfolding ticks
+  ticks-go i is q e = rw (eq-eqb (tickRefusal k step q i) 0 e) refl
+
+  -- where the ticks of a list are not refused, the first is not, nor are those after it
+  pub first-done : (i : ℕ) (is : List ℕ) (q : State) → ticks k step (i ∷ is) q .refusal ≡ 0
+      → (tickRefusal k step q i ≡ 0) × (ticks k step is (step q i .state) .refusal ≡ 0)
+  unfolding ticks tickThen stops
+  first-done i is q h = go (eqb (tickRefusal k step q i) 0) refl h
     where
-      timers : ℕ
-      timers = running s (p .at)
+      go : (b : Bool) → eqb (tickRefusal k step q i) 0 ≡ b
+          → cond b (tickThen (step q i) (ticks k step is (step q i .state))) (stops (tickRefusal k step q i) q) .refusal ≡ 0
+          → (tickRefusal k step q i ≡ 0) × (ticks k step is (step q i .state) .refusal ≡ 0)
+      go true z e = (eqb-true (tickRefusal k step q i) 0 z, e)
+      go false z e = absurd (eqb-false (tickRefusal k step q i) 0 z e)
 
-      z : TickSets
-      z = tick s (p .at) (dueTimers timers p) i .sets
+  -- what holds of the ticks of every list: by a first tick that is refused, or done
+  module _ (P : List ℕ → State → Ticks → Type 0) (none : (q : State) → P [] q (stops 0 q))
+      (bad : (i : ℕ) (is : List ℕ) (q : State) → (tickRefusal k step q i ≡ 0 → ⊥) → P (i ∷ is) q (stops (tickRefusal k step q i) q))
+      (good : (i : ℕ) (is : List ℕ) (q : State) → tickRefusal k step q i ≡ 0 → P is (step q i .state) (ticks k step is (step q i .state))
+      → P (i ∷ is) q (tickThen (step q i) (ticks k step is (step q i .state)))) where
+    pub ticks-all : (is : List ℕ) (q : State) → P is q (ticks k step is q)
+    unfolding ticks
+    ticks-all [] q = none q
+    ticks-all (i ∷ is) q = go (eqb (tickRefusal k step q i) 0) refl (ticks-all is (step q i .state))
+      where
+        go : (b : Bool) → eqb (tickRefusal k step q i) 0 ≡ b → P is (step q i .state) (ticks k step is (step q i .state))
+            → P (i ∷ is) q (cond b (tickThen (step q i) (ticks k step is (step q i .state))) (stops (tickRefusal k step q i) q))
+        go true z ih = good i is q (eqb-true (tickRefusal k step q i) 0 z) ih
+        go false z ih = bad i is q (eqb-false (tickRefusal k step q i) 0 z)
 
-      q : State
-      q = stateAfter s p z
+  -- ---- a run split at any place
 
-      on : Runs s (z .modes) t
-      on = running-e s (z .modes) t r
-
-      small : t < 64
-      small = lt-of-lt-of-le (on .small) (t-le s sd)
-
-      value : (b : Bool) → has (z .entered) (source s t) ≡ b → reading q t ≡ cond b (delay s t) (reading p t - 1)
-      value b g =
-          unfold reading in
-          (next-reading (running s (z .modes)) (z .entered) (source s) (delay s) p t small
-          ∙ ap (λ (c : Bool). cond c (cond (has (z .entered) (source s t)) (delay s t) (reading p t - 1)) 0) (is-true (has (running s (z .modes)) t) r)
-          ∙ ap (λ (c : Bool). cond c (delay s t) (reading p t - 1)) g)
-
-      went-on : T (has (p .at) (source s t)) ⊎ T (has (z .entered) (source s t)) → has (z .entered) (source s t) ≡ false → T (has (p .at) (source s t))
-      went-on (inl k) g = k
-      went-on (inr k) g = absurd (subst T g k)
-
-      ran : has (z .entered) (source s t) ≡ false → T (has timers t)
-      ran g =
-          running-i s (p .at) t
-          (record { small = on .small; timer = on .timer; on = went-on (kept s (dueTimers timers p) i (p .at) (source s t) (on .on)) g })
-
-      left : has (z .entered) (source s t) ≡ false → eqb (reading p t - 1) 0 ≡ false
-      left g =
-          is-false (eqb (reading p t - 1) 0) (λ k.
-          subst T (sym (due-at timers p t small) ∙ not-due s sd (dueTimers timers p) i (p .at) e t r g)
-          (and-i (has timers t) (eqb (reading p t - 1) 0) (ran g) k))
-
-      go : (b : Bool) → has (z .entered) (source s t) ≡ b → (1 ≤ reading q t) × (reading q t ≤ delay s t)
-      go true g = let v : reading q t ≡ delay s t = value true g in (omega (arith, delay-pos s t (on .timer)), omega arith)
-      go false g =
-          let v : reading q t ≡ reading p t - 1 = value false g in
-          let k = h t (ran g) in
-          let n = eqb-false (reading p t - 1) 0 (left g) in
-          (omega arith, omega arith)
-
-  -- the rounds of a run are at most T for each done tick
-  rounds-total : (is : List ℕ) (p : State) → sheetTicks s is p .rounds ≤ tOf s * sheetTicks s is p .done
-  unfolding sheetTicks stops tickThen
-  rounds-total [] p = zero-le
-  rounds-total (i ∷ is) p = go (inputForeign (kOf s) i) (eqb (o .refusal) 0) (rounds-total is (stateAfter s p (o .sets)))
+  -- the ticks of a list are those of its front part, then of the rest from the state between
+  pub ticks-split : (a b : List ℕ) (q : State) → ticks k step a q .refusal ≡ 0
+      → ticks k step (a ++ b) q ≡ ticksThen (ticks k step a q) (ticks k step b (ticks k step a q .state))
+  unfolding ticksThen tickThen
+  ticks-split [] b q h = unfold ticks stops in (ap₂ (λ (n r : ℕ). record { done = n; state = ticks k step b q .state; refusal = ticks k step b q .refusal; words = ticks k step b q .words; rounds = r }) (sym (zero-add (ticks k step b q .done))) (sym (zero-add (ticks k step b q .rounds))))
+  ticks-split (i ∷ a) b q h =
+      let f = first-done i a q h in
+      let ih = ticks-split a b (step q i .state) (f .1) in
+      ticks-go i (a ++ b) q (f .0) ∙ ap (tickThen (step q i)) ih ∙ joined (step q i) (ticks k step a (step q i .state)) (λ p. ticks k step b p)
+      ∙ ap (λ (x : Ticks). ticksThen x (ticks k step b (x .state))) (sym (ticks-go i a q (f .0)))
     where
-      o : Tick
-      o = tickFrom s p i
+      joined : (o : Step) (x : Ticks) (rest : State → Ticks) → tickThen o (ticksThen x (rest (x .state))) ≡ ticksThen (tickThen o x) (rest (tickThen o x .state))
+      joined o x rest =
+          let y = rest (x .state) in
+          let n : suc (x .done + y .done) ≡ suc (x .done) + y .done = omega arith in
+          ap₂ (λ (d : ℕ) (w : List ℕ). record { done = d; state = y .state; refusal = y .refusal; words = w; rounds = o .rounds + (x .rounds + y .rounds) }) n (sym (append-assoc (o .words) (x .words) (y .words)))
+          ∙ ap (λ (r : ℕ). record { done = suc (x .done) + y .done; state = y .state; refusal = y .refusal; words = (o .words ++ x .words) ++ y .words; rounds = r }) (sym (add-assoc (o .rounds) (x .rounds) (y .rounds)))
 
-      rest : Ticks
-      rest = sheetTicks s is (stateAfter s p (o .sets))
+  -- where the front part is refused, it is all
+  pub ticks-cut : (a b : List ℕ) (q : State) → (ticks k step a q .refusal ≡ 0 → ⊥) → ticks k step (a ++ b) q ≡ ticks k step a q
+  ticks-cut [] b q n = absurd (n (unfold ticks stops in refl))
+  ticks-cut (i ∷ a) b q n = go (eqb (tickRefusal k step q i) 0) refl (ticks-cut a b (step q i .state))
+    where
+      go : (c : Bool) → eqb (tickRefusal k step q i) 0 ≡ c
+          → ((ticks k step a (step q i .state) .refusal ≡ 0 → ⊥) → ticks k step (a ++ b) (step q i .state) ≡ ticks k step a (step q i .state))
+          → ticks k step (i ∷ (a ++ b)) q ≡ ticks k step (i ∷ a) q
+      go true z ih =
+          let e = eqb-true (tickRefusal k step q i) 0 z in
+          ticks-go i (a ++ b) q e
+          ∙ ap (tickThen (step q i)) (ih (λ h. n (ap (λ (x : Ticks). x .refusal) (ticks-go i a q e) ∙ (unfold tickThen in h))))
+          ∙ sym (ticks-go i a q e)
+      go false z ih =
+          let e = eqb-false (tickRefusal k step q i) 0 z in
+          ticks-refused i (a ++ b) q e ∙ sym (ticks-refused i a q e)
 
-      res : Bool → Bool → Ticks
-      res a b = cond a (stops 13 p) (cond b (tickThen (fiveWords (o .sets)) (o .rounds) rest) (stops (o .refusal) p))
+  -- one tick at a time: the tick of the first set, then those of the rest from the state that it left
+  pub ticks-one : (i : ℕ) (is : List ℕ) (q : State) → ticks k step (i ∷ []) q .refusal ≡ 0
+      → ticks k step (i ∷ is) q ≡ ticksThen (ticks k step (i ∷ []) q) (ticks k step is (ticks k step (i ∷ []) q .state))
+  ticks-one i is q h = ticks-split (i ∷ []) is q h
 
-      one : o .rounds ≤ tOf s
-      one = unfold tickFrom in (rounds-le s (dueTimers (running s (p .at)) p) i (p .at))
+  -- a front part is not refused where the whole is not
+  pub front-done : (a b : List ℕ) (q : State) → ticks k step (a ++ b) q .refusal ≡ 0 → ticks k step a q .refusal ≡ 0
+  unfolding tickThen
+  front-done [] b q h = unfold ticks stops in refl
+  front-done (i ∷ a) b q h =
+      let f = first-done i (a ++ b) q h in
+      ap (λ (x : Ticks). x .refusal) (ticks-go i a q (f .0)) ∙ front-done a b (step q i .state) (f .1)
 
-      go : (a b : Bool) → rest .rounds ≤ tOf s * rest .done → res a b .rounds ≤ tOf s * res a b .done
-      go true b h = zero-le
-      go false false h = zero-le
-      go false true h = omega (arith, one, mul-suc (tOf s) (rest .done))
+  -- ---- what ticks keep
 
-pub run-rounds : RunRounds
-unfolding RunRounds
-run-rounds s inputs q = rounds-total s inputs q
+  -- what every done tick keeps holds after them
+  module _ (P : State → Type 0) (keeps : (p : State) (i : ℕ) → tickRefusal k step p i ≡ 0 → P p → P (step p i .state)) where
+    pub ticks-keep : (is : List ℕ) (q : State) → P q → P (ticks k step is q .state)
+    unfolding stops tickThen
+    ticks-keep is q = ticks-all (λ _ p x. P p → P (x .state)) (λ _ h. h) (λ _ _ _ _ h. h) (λ i _ p e ih h. ih (keeps p i e h)) is q
+
+  -- no more ticks are done than there are sets; all are, where none is refused
+  pub done-le : (is : List ℕ) (q : State) → ticks k step is q .done ≤ length is
+  unfolding stops tickThen
+  done-le = ticks-all (λ is _ x. x .done ≤ length is) (λ _. zero-le) (λ _ _ _ _. zero-le) (λ i is q e ih. omega arith)
+
+  pub done-all : (is : List ℕ) (q : State) → ticks k step is q .refusal ≡ 0 → ticks k step is q .done ≡ length is
+  unfolding stops tickThen
+  done-all = ticks-all (λ is _ x. x .refusal ≡ 0 → x .done ≡ length is) (λ _ _. refl) (λ _ _ _ n h. absurd (n h)) (λ i is q e ih h. ap suc (ih h))
+
+  -- as many rounds as m for each done tick, at the most
+  module _ (m : ℕ) (few : (p : State) (i : ℕ) → step p i .rounds ≤ m) where
+    pub rounds-few : (is : List ℕ) (q : State) → ticks k step is q .rounds ≤ m * ticks k step is q .done
+    unfolding stops tickThen
+    rounds-few = ticks-all (λ _ _ x. x .rounds ≤ m * x .done) (λ _. zero-le) (λ _ _ _ _. zero-le) (λ i is q e ih. omega (arith, few q i, mul-suc m (ticks k step is (step q i .state) .done)))
+
+  -- five words for each done tick
+  module _ (five : (p : State) (i : ℕ) → length (step p i .words) ≡ 5) where
+    pub words-five : (is : List ℕ) (q : State) → length (ticks k step is q .words) ≡ 5 * ticks k step is q .done
+    unfolding stops tickThen
+    words-five =
+        ticks-all (λ _ _ x. length (x .words) ≡ 5 * x .done) (λ _. refl) (λ _ _ _ _. refl)
+        (λ i is q e ih. length-append (step q i .words) (ticks k step is (step q i .state) .words) ∙ omega (arith, five q i))
+
+  -- ---- the whole run
+
+  module _ (refusal : ℕ) (ok : Bool) (q : State) (inputs out : List ℕ) where
+    -- what is refused before any tick
+    abbrev pub refusedFirst : ℕ
+    refusedFirst = firstRefusal (refusal ∷ refusedIf (not ok) 14 ∷ refusedIf (outputShort inputs out) 12 ∷ [])
+
+    pub run-stops : (e : ℕ) → refusedFirst ≡ e → (e ≡ 0 → ⊥) → run k step refusal ok q inputs out ≡ ran out (stops e q)
+    unfolding run
+    run-stops e h n = rw (h, ne-eqb e 0 n) refl
+
+    pub run-refused : (refusal ≡ 0 → ⊥) → run k step refusal ok q inputs out ≡ ran out (stops refusal q)
+    run-refused n = run-stops refusal (first-met refusal _ n) n
+
+    pub run-state : refusal ≡ 0 → ok ≡ false → run k step refusal ok q inputs out ≡ ran out (stops 14 q)
+    run-state z e =
+        run-stops 14 (first-passed refusal _ z ∙ (unfold refusedIf in (rw e (first-met 14 _ (λ h. omega arith))))) (λ h. omega arith)
+
+    pub run-short : refusal ≡ 0 → ok ≡ true → outputShort inputs out ≡ true → run k step refusal ok q inputs out ≡ ran out (stops 12 q)
+    run-short z e h =
+        run-stops 12
+        (first-passed refusal _ z ∙ (unfold refusedIf in (rw (e, h) (first-passed 0 (12 ∷ []) refl ∙ first-alone 12)))) (λ n. omega arith)
+
+    pub run-goes : refusal ≡ 0 → ok ≡ true → outputShort inputs out ≡ false → run k step refusal ok q inputs out ≡ ran out (ticks k step inputs q)
+    unfolding run
+    run-goes z e h =
+        let none : refusedFirst ≡ 0 = first-passed refusal _ z ∙ (unfold refusedIf in (rw (e, h) (first-passed 0 (0 ∷ []) refl ∙ first-alone 0))) in
+        rw (eq-eqb refusedFirst 0 none) refl
+
+    -- what holds where the run stops, and of its ticks, holds of it
+    pub run-all : (P : Run → Type 0) → ((e : ℕ) → P (ran out (stops e q))) → P (ran out (ticks k step inputs q)) → P (run k step refusal ok q inputs out)
+    unfolding run
+    run-all P bad good = go (eqb refusedFirst 0)
+      where
+        go : (b : Bool) → P (ran out (cond b (ticks k step inputs q) (stops refusedFirst q)))
+        go true = good
+        go false = bad refusedFirst

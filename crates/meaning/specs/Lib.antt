@@ -13,6 +13,7 @@ pub mod Compile
 pub mod Refusal
 pub mod TickInWords
 pub mod OneByOne
-pub mod Promises
 pub mod WholeList
+pub mod Faithful
+pub mod Promises
 pub mod Examples

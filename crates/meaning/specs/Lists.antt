@@ -1,9 +1,10 @@
--- Lists of words: rows by a rule, places, and words laid over a lent slice. Assumes nothing.
+-- Lists of words: rows by a rule, places, words laid over a lent slice; which refusal is given. Assumes nothing.
+use mathlib.Core.Path.{_≡_}
 use mathlib.Core.Bool.{Bool, true, false, _&&_, _||_, cond}
 use mathlib.Core.List.{List, [], _∷_, _++_}
-use Prim.Native.Nat.{ℕ, zero, suc}
+use Prim.Native.Nat.{ℕ, zero, suc, _<_}
 use lib.Dec.{eqb}
-use lib.ListN.{length, drop}
+use lib.ListN.{length, drop, getD}
 
 -- f i, f (i + 1), ..: w of them
 unfoldable pub rowFrom : {A : Type 0} → ℕ → ℕ → (ℕ → A) → List A
@@ -29,7 +30,20 @@ unfoldable pub allOf : List Bool → Bool
 allOf [] = true
 allOf (b ∷ bs) = let r = allOf bs in b && r
 
+-- each element's place is its own: no element stands twice
+unfoldable pub Distinct : List ℕ → Type 0
+Distinct l = (i : ℕ) → i < length l → place (getD l i 0) l ≡ i
+
 -- the number of the first test that applies, counted from i; 0 if none does
 unfoldable pub firstOf : ℕ → List Bool → ℕ
 firstOf i [] = 0
 firstOf i (b ∷ bs) = let r = firstOf (suc i) bs in cond b i r
+
+-- the number of a refusal where its condition holds, else 0
+unfoldable pub refusedIf : Bool → ℕ → ℕ
+refusedIf b e = cond b e 0
+
+-- of refusals in their order, 0 for one that is not met, the first that is met; 0 if none is
+unfoldable pub firstRefusal : List ℕ → ℕ
+firstRefusal [] = 0
+firstRefusal (e ∷ es) = let r = firstRefusal es in cond (eqb e 0) r e

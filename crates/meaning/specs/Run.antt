@@ -1,11 +1,11 @@
 -- States and runs, for sheet and table alike. Assumes nothing.
-use mathlib.Core.Bool.{Bool, _&&_, cond}
-use mathlib.Core.List.{List, [], _++_}
+use mathlib.Core.Bool.{Bool, not, _&&_, cond}
+use mathlib.Core.List.{List, [], _∷_, _++_}
 use Prim.Native.Nat.{ℕ, suc, _+_, _-_, _*_, _^_}
 use lib.Dec.{eqb, leb, ltb}
 use lib.ListN.{length, getD, replicate}
 use Rattle.sets.specs.Sets.{has, those, every}
-use Rattle.meaning.specs.Lists.{rowFrom, overwritten}
+use Rattle.meaning.specs.Lists.{rowFrom, overwritten, refusedIf, firstRefusal}
 
 -- "A state is a mode set and one reading per transition"; in a table run a block number in place of the set. There are 64
 -- readings, those at T and above 0.
@@ -13,33 +13,45 @@ pub record State : Type 0 where
   pub at : ℕ
   pub readings : List ℕ
 
-unfoldable pub reading : State → ℕ → ℕ
-reading q t = getD (q .readings) t 0
+-- the reading of transition t
+unfoldable pub reading : List ℕ → ℕ → ℕ
+reading readings t = getD readings t 0
 
 -- "Fresh state: set 0 (table: block 0), all readings 0."
 unfoldable pub powerOn : State
 powerOn = record { at = 0; readings = replicate 64 0 }
 
 unfoldable pub isFresh : State → Bool
-isFresh q = eqb (q .at) 0 && every 64 (λ t. eqb (reading q t) 0)
+isFresh q = eqb (q .at) 0 && every 64 (λ t. eqb (reading (q .readings) t) 0)
 
 -- "each running reading 1 to its delay and others 0": the running timers as a set, and their delays
-unfoldable pub readingsOk : ℕ → (ℕ → ℕ) → State → Bool
-readingsOk timers delayOf q =
-    every 64 (λ t. cond (has timers t) (leb 1 (reading q t) && leb (reading q t) (delayOf t)) (eqb (reading q t) 0))
+unfoldable pub readingsOk : ℕ → (ℕ → ℕ) → List ℕ → Bool
+readingsOk timers delayOf readings =
+    every 64 (λ t. cond (has timers t) (leb 1 (reading readings t) && leb (reading readings t) (delayOf t)) (eqb (reading readings t) 0))
 
 -- the due timers: "each running reading drops by 1", and is then 0
-unfoldable pub dueTimers : ℕ → State → ℕ
-dueTimers timers q = those 64 timers (λ t. eqb (reading q t - 1) 0)
+unfoldable pub dueTimers : ℕ → List ℕ → ℕ
+dueTimers timers readings = those 64 timers (λ t. eqb (reading readings t - 1) 0)
 
 -- the readings after a tick with the timers that run then: a timer "takes its delay if its source was entered, else its lowered
 -- reading"; every other reading is 0
-unfoldable pub nextReadings : ℕ → ℕ → (ℕ → ℕ) → (ℕ → ℕ) → State → List ℕ
-nextReadings timers entered sourceOf delayOf q =
-    rowFrom 0 64 (λ t. cond (has timers t) (cond (has entered (sourceOf t)) (delayOf t) (reading q t - 1)) 0)
+unfoldable pub nextReadings : ℕ → ℕ → (ℕ → ℕ) → (ℕ → ℕ) → List ℕ → List ℕ
+nextReadings timers entered sourceOf delayOf readings =
+    rowFrom 0 64 (λ t. cond (has timers t) (cond (has entered (sourceOf t)) (delayOf t) (reading readings t - 1)) 0)
 
--- the ticks of a run: those done, the state after them, the refusal, the words of the done ticks, the total of rounds (0 for a
--- table, which has none)
+-- the state that a tick from q leaves: the mode set or block after it, by the timers that run there and the modes entered
+unfoldable pub nextState : ℕ → ℕ → ℕ → (ℕ → ℕ) → (ℕ → ℕ) → State → State
+nextState at timers entered sourceOf delayOf q =
+    record { at = at; readings = nextReadings timers entered sourceOf delayOf (q .readings) }
+
+-- what one tick gives: its refusal (0: it is done), its five words, its rounds (0 for a table, which has none), the state after it
+pub record Step : Type 0 where
+  pub refusal : ℕ
+  pub words : List ℕ
+  pub rounds : ℕ
+  pub state : State
+
+-- the ticks of a run: those done, the state after them, the refusal, the words of the done ticks, the total of rounds
 pub record Ticks : Type 0 where
   pub done : ℕ
   pub state : State
@@ -51,10 +63,10 @@ pub record Ticks : Type 0 where
 unfoldable pub stops : ℕ → State → Ticks
 stops e q = record { done = 0; state = q; refusal = e; words = []; rounds = 0 }
 
--- a tick with five words and r rounds, and those after it
-unfoldable pub tickThen : List ℕ → ℕ → Ticks → Ticks
-tickThen five r o =
-    record { done = suc (o .done); state = o .state; refusal = o .refusal; words = five ++ o .words; rounds = r + o .rounds }
+-- a done tick, and those after it
+unfoldable pub tickThen : Step → Ticks → Ticks
+tickThen o on =
+    record { done = suc (on .done); state = on .state; refusal = on .refusal; words = o .words ++ on .words; rounds = o .rounds + on .rounds }
 
 -- 12: "fewer than 5 output words per input set"
 unfoldable pub outputShort : List ℕ → List ℕ → Bool
@@ -77,3 +89,24 @@ pub record Run : Type 0 where
 unfoldable pub ran : List ℕ → Ticks → Run
 ran out o =
     record { done = o .done; state = o .state; refusal = o .refusal; rounds = o .rounds; out = overwritten (o .words) out }
+
+-- k: the input events; step: the tick from a state on an input set
+module _ (k : ℕ) (step : State → ℕ → Step) where
+  -- "tick by tick 13, then" what the tick itself is refused with
+  unfoldable pub tickRefusal : State → ℕ → ℕ
+  tickRefusal q i = firstRefusal (refusedIf (inputForeign k i) 13 ∷ step q i .refusal ∷ [])
+
+  -- the ticks of a list of input sets from q on; a refused tick leaves the state of the tick before
+  unfoldable pub ticks : List ℕ → State → Ticks
+  ticks [] q = stops 0 q
+  ticks (i ∷ is) q =
+      let e = tickRefusal q i in
+      let on = tickThen (step q i) (ticks is (step q i .state)) in
+      cond (eqb e 0) on (stops e q)
+
+  -- the run on a state, a list of input sets and the output words: what is refused of the sheet or table itself, "then 14, then 12,
+  -- then tick by tick"
+  unfoldable pub run : ℕ → Bool → State → List ℕ → List ℕ → Run
+  run refusal stateOk q inputs out =
+      let e = firstRefusal (refusal ∷ refusedIf (not stateOk) 14 ∷ refusedIf (outputShort inputs out) 12 ∷ []) in
+      ran out (cond (eqb e 0) (ticks inputs q) (stops e q))

@@ -47,7 +47,7 @@ module _ (s : List ℕ) where
   -- "First tick: .. timers with an active source start at their delay"; "Every other tick: each running reading drops by 1"
   unfoldable pub startReadings : State → List ℕ
   startReadings q =
-      rowFrom 0 64 (λ t. cond (has (running s (begin s (q .at) .modes)) t) (cond (eqb (q .at) 0) (delay s t) (reading q t - 1)) 0)
+      rowFrom 0 64 (λ t. cond (has (running s (begin s (q .at) .modes)) t) (cond (eqb (q .at) 0) (delay s t) (reading (q .readings) t - 1)) 0)
 
   unfoldable pub timedTick : State → ℕ → Timed
   timedTick q i = timedFrom (suc (tOf s)) i (begin s (q .at)) (startReadings q) 0

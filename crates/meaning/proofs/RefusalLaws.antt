@@ -1,0 +1,42 @@
+-- Laws of refusals in their order. Assumes nothing.
+use mathlib.Core.Path.{_≡_, refl, sym, ap, _∙_}
+use mathlib.Core.Bool.{Bool, true, false, cond}
+use mathlib.Core.List.{List, [], _∷_}
+use Prim.Native.Nat.{ℕ}
+use lib.Dec.{eqb}
+use borrow.Author.Tests.{eqb-true, eqb-false, eq-eqb, ne-eqb}
+use Rattle.meaning.specs.Lists.{refusedIf, firstRefusal}
+
+-- a refusal that is met is given
+pub first-met : (e : ℕ) (es : List ℕ) → (e ≡ 0 → ⊥) → firstRefusal (e ∷ es) ≡ e
+unfolding firstRefusal
+first-met e es n = rw (ne-eqb e 0 n) refl
+
+-- one that is not met is passed over
+pub first-passed : (e : ℕ) (es : List ℕ) → e ≡ 0 → firstRefusal (e ∷ es) ≡ firstRefusal es
+unfolding firstRefusal
+first-passed e es z = rw (eq-eqb e 0 z) refl
+
+-- of one refusal it is that one
+pub first-alone : (e : ℕ) → firstRefusal (e ∷ []) ≡ e
+unfolding firstRefusal
+first-alone e = go (eqb e 0) refl
+  where
+    go : (b : Bool) → eqb e 0 ≡ b → cond b 0 e ≡ e
+    go true z = sym (eqb-true e 0 z)
+    go false z = refl
+
+-- where none is given none is met
+pub none-met : (e : ℕ) (es : List ℕ) → firstRefusal (e ∷ es) ≡ 0 → (e ≡ 0) × (firstRefusal es ≡ 0)
+unfolding firstRefusal
+none-met e es h = go (eqb e 0) refl h
+  where
+    go : (b : Bool) → eqb e 0 ≡ b → cond b (firstRefusal es) e ≡ 0 → (e ≡ 0) × (firstRefusal es ≡ 0)
+    go true z k = (eqb-true e 0 z, k)
+    go false z k = absurd (eqb-false e 0 z k)
+
+-- a condition that does not hold, where its refusal is not met
+pub unmet : (b : Bool) (e : ℕ) → (e ≡ 0 → ⊥) → refusedIf b e ≡ 0 → b ≡ false
+unfolding refusedIf
+unmet true e n h = absurd (n h)
+unmet false e n h = refl
