@@ -1,6 +1,7 @@
 -- Laws in the order of the definitions, then the theorems.
 pub mod ListLaws
 pub mod ListedLaws
+pub mod RefusalLaws
 pub mod SheetLaws
 pub mod Containment
 pub mod Completion
@@ -8,16 +9,19 @@ pub mod Fuel
 pub mod TickLaws
 pub mod Consistency
 pub mod AnyOrder
-pub mod RefusalLaws
-pub mod RunLaws
 pub mod ReadingLaws
-pub mod SheetTicksLaws
 pub mod TickInWordsLaws
+pub mod RunLaws
+pub mod SheetTicksLaws
 pub mod WalkFuel
 pub mod WalkLaws
 pub mod TableLaws
+pub mod LayoutLaws
+pub mod FaithfulLaws
 pub mod Simulation
-pub mod TableSound
 pub mod ServedLaws
+pub mod TableFaithful
+pub mod TableSound
+pub mod CompiledLaws
 pub mod Bounds
 pub mod Theorem

@@ -21,7 +21,7 @@ use Rattle.meaning.specs.Run.{State, reading, powerOn, dueTimers, nextRe
 use Rattle.meaning.specs.SheetRun.{tickFrom, stateAfter}
 use Rattle.meaning.proofs.ListLaws.{allOf-e, rowFrom-at, rowFrom-ext}
 use Rattle.meaning.proofs.SheetLaws.{Sound, t-le}
-use Rattle.meaning.proofs.TickLaws.{kept, not-due, Runs, running-e, running-i}
+use Rattle.meaning.proofs.TickLaws.{stayed-or-entered, not-due, Runs, running-e, running-i}
 
 -- the reading of t after a tick
 pub next-reading : (timers entered : ℕ) (sourceOf delayOf : ℕ → ℕ) (readings : List ℕ) (t : ℕ) → t < 64
@@ -116,7 +116,7 @@ module _ (s : List ℕ) where
       ran : has (z .entered) (source s t) ≡ false → T (has timers t)
       ran g =
           running-i s (p .at) t
-          (record { small = on .small; timer = on .timer; on = went-on (kept s (dueTimers timers (p .readings)) i (p .at) (source s t) (on .on)) g })
+          (record { small = on .small; timer = on .timer; on = went-on (stayed-or-entered s (dueTimers timers (p .readings)) i (p .at) (source s t) (on .on)) g })
 
       left : has (z .entered) (source s t) ≡ false → eqb (reading (p .readings) t - 1) 0 ≡ false
       left g =

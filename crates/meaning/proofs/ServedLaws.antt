@@ -1,194 +1,119 @@
--- The whole-list theorem, from the fact that a tick keeps a mode set consistent. Assumes nothing.
+-- A faithful table serves any list of calls from power-on as its sheet does. Assumes nothing.
 use mathlib.Core.Path.{_≡_, refl, sym, ap, ap₂, _∙_, subst}
 use mathlib.Core.Logic.{_⊎_, inl, inr}
-use mathlib.Core.Bool.{Bool, true, false, not, cond}
-use mathlib.Core.List.{List, [], _∷_, _++_, map, flatten, append-assoc, append-nil}
-use Prim.Native.Nat.{ℕ, zero, suc, _*_, _≤_, _<_, zero-le}
-use native.Mathlib.Nat.{le-trans, not-suc-le-zero, le-of-suc-le-suc, eq-zero-or-pos, suc-ne-zero, min-le-right}
+use mathlib.Core.Bool.{Bool, true, false, not, _&&_, _||_, cond}
+use mathlib.Core.List.{List, [], _∷_, _++_, map, flatten, append-nil}
+use Prim.Native.Nat.{ℕ, zero, suc, _*_, _<_}
+use native.Mathlib.Nat.{not-suc-le-zero, le-of-suc-le-suc}
 use native.Mathlib.Omega.{arith}
-use lib.Dec.{T, eqb, ltb}
-use lib.ListN.{length, getD, take, drop, take-append-drop, getD-replicate}
-use lib.Seq.{take-at, take-append-seam}
-use lib.Arith.{le-zero}
-use borrow.Author.Tests.{eqb-true, eqb-false, eq-eqb, ltb-true, ltb-false}
-use Rattle.sets.specs.Sets.{has, size}
-use Rattle.sets.proofs.Tests.{is-true}
+use lib.Dec.{T, eqb, leb, ltb, le→leb, lt→ltb}
+use lib.ListN.{length, getD, take}
+use lib.Seq.{take-at}
+use borrow.Author.Tests.{eqb-true, eqb-false, eq-eqb}
+use Rattle.sets.specs.Sets.{has, every}
+use Rattle.sets.proofs.Tests.{is-true, of-true, and-i, or-l, or-r}
+use Rattle.sets.proofs.Facts.{every-i}
 use Rattle.sets.proofs.Membership.{has-none}
-use Rattle.meaning.specs.Lists.{isIn, overwritten}
-use Rattle.meaning.specs.Sheet.{kOf, source}
+use Rattle.meaning.specs.Lists.{overwritten, refusedIf}
+use Rattle.meaning.specs.Sheet.{kOf}
 use Rattle.meaning.specs.Check.{sheetRefusal}
 use Rattle.meaning.specs.Hierarchy.{consistent}
-use Rattle.meaning.specs.Reaction.{running, delay}
-use Rattle.meaning.specs.Tick.{Tick, tick, fiveWords}
-use Rattle.meaning.specs.Run.{State, reading, powerOn, dueTimers, Ticks, stops, tickThen, outputShort, inputForeign, Run, ran}
-use Rattle.meaning.specs.SheetRun.{tickFrom, stateAfter, sheetTicks}
-use Rattle.meaning.specs.Table.{tableOk}
-use Rattle.meaning.specs.TableRun.{tableStateOk, tableTicks, tableRun}
-use Rattle.meaning.specs.Compile.{Walk, Compiled, compile, walk, tableWords}
-use Rattle.meaning.specs.WholeList.{Call, legal, doneSets, refusalOf, runsFrom, doneWords, allDone, runOf, stateBefore, sheetBy, RunRight, Served, WholeList}
-use Rattle.meaning.proofs.ListLaws.{allOf-e}
+use Rattle.meaning.specs.Reaction.{running}
+use Rattle.meaning.specs.Tick.{tick}
+use Rattle.meaning.specs.Run.{State, reading, powerOn, isFresh, readingsOk, Ticks, stops, outputShort, Run, ran, ticks}
+use Rattle.meaning.specs.SheetRun.{sheetStep, sheetTicks}
+use Rattle.meaning.specs.Table.{kIn, bIn, delayIn, maskIn, timersIn, tableOk}
+use Rattle.meaning.specs.TableRun.{tableStep, tableStateOk, tableTicks, tableRun}
+use Rattle.meaning.specs.WholeList.{Call, legal, doneSets, refusalOf, runsFrom, doneWords, allDone, runOf, stateBefore, sheetBy, RunRight, Served}
+use Rattle.meaning.specs.Faithful.{faithful, FaithfulServes}
 use Rattle.meaning.proofs.SheetLaws.{Sound, sound}
-use Rattle.meaning.proofs.WalkFuel.{walk-few}
-use Rattle.meaning.proofs.WalkLaws.{Fine, Closed, walk-closed}
-use Rattle.meaning.proofs.RunLaws.{next-reading, Right, right-fresh}
-use Rattle.meaning.proofs.TableLaws.{tbl, b-in, mask-in}
-use Rattle.meaning.proofs.Simulation.{Stands, ticks-agree}
-use Rattle.meaning.proofs.TableSound.{table-ok, state-ok}
+use Rattle.meaning.proofs.TickLaws.{running-e, running-none}
+use Rattle.meaning.proofs.ReadingLaws.{Right, right-fresh, Zeros, zeros-fresh, zeros-next}
+use Rattle.meaning.proofs.RunLaws.{ticksThen, ticks-split, ticks-keep, done-all, words-five, run-short, run-goes}
+use Rattle.meaning.proofs.SheetTicksLaws.{five-long, Steady, steady-after, consistent-after}
+use Rattle.meaning.proofs.LayoutLaws.{b-pos, mask-first}
+use Rattle.meaning.proofs.FaithfulLaws.{delay-same}
+use Rattle.meaning.proofs.Simulation.{Stands, timers-stand, ticks-agree}
 
--- ---- the sheet's ticks on a list in two parts
+module _ (s : List ℕ) (sd : Sound s) (w : List ℕ) (ok : T (tableOk w)) (f : T (faithful s w)) where
+  -- ---- a state that stands for one of the sheet's is not refused
 
-module _ (s : List ℕ) where
-  -- the state after a tick
-  abbrev next : State → ℕ → State
-  next p i = stateAfter s p (tickFrom s p i .sets)
+  module _ (q p : State) (st : Stands s sd w ok f q p) (right : Right s p) (zeros : Zeros s p) where
+    same : (u : ℕ) → reading (q .readings) u ≡ reading (p .readings) u
+    same u = ap (λ (l : List ℕ). reading l u) (st .readings)
 
-  -- a first tick that is not refused
-  first-ok : (i : ℕ) (is : List ℕ) (p : State) → sheetTicks s (i ∷ is) p .refusal ≡ 0 → (inputForeign (kOf s) i ≡ false) × (tickFrom s p i .refusal ≡ 0)
-  unfolding sheetTicks stops
-  first-ok i is p h = go (inputForeign (kOf s) i) (eqb (o .refusal) 0) refl refl h
-    where
-      o : Tick
-      o = tickFrom s p i
+    runs-same : (u : ℕ) → has (timersIn w (q .at)) u ≡ has (running s (p .at)) u
+    runs-same u = ap (λ (x : ℕ). has x u) (timers-stand s sd w ok f q p st)
 
-      res : Bool → Bool → Ticks
-      res a b = cond a (stops 13 p) (cond b (tickThen (fiveWords (o .sets)) (o .rounds) (sheetTicks s is (stateAfter s p (o .sets)))) (stops (o .refusal) p))
+    abbrev fits : Bool → ℕ → Bool
+    fits v u = cond v (leb 1 (reading (q .readings) u) && leb (reading (q .readings) u) (delayIn w u)) (eqb (reading (q .readings) u) 0)
 
-      go : (a b : Bool) → inputForeign (kOf s) i ≡ a → eqb (o .refusal) 0 ≡ b → res a b .refusal ≡ 0 → (inputForeign (kOf s) i ≡ false) × (o .refusal ≡ 0)
-      go true b ea eb k = absurd (suc-ne-zero 12 k)
-      go false true ea eb k = (ea, eqb-true (o .refusal) 0 eb)
-      go false false ea eb k = absurd (eqb-false (o .refusal) 0 eb k)
+    reading-ok : (u : ℕ) → u < 64 → (v : Bool) → has (timersIn w (q .at)) u ≡ v → T (fits v u)
+    unfolding Right
+    reading-ok u l true e =
+        let on = subst T (runs-same u) (of-true e) in
+        let b = right u on in
+        let k = running-e s (p .at) u on in
+        let d = delay-same s w f sd u (k .small) (k .timer) in
+        and-i (leb 1 (reading (q .readings) u)) (leb (reading (q .readings) u) (delayIn w u))
+        (le→leb 1 (reading (q .readings) u) (omega (arith, same u))) (le→leb (reading (q .readings) u) (delayIn w u) (omega (arith, same u)))
+    reading-ok u l false e = of-true (eq-eqb (reading (q .readings) u) 0 (same u ∙ zeros u l (sym (runs-same u) ∙ e)))
 
-  -- a tick that is not refused, then the rest
-  step : (i : ℕ) (p : State) → inputForeign (kOf s) i ≡ false → tickFrom s p i .refusal ≡ 0 → (is : List ℕ)
-      → sheetTicks s (i ∷ is) p ≡ tickThen (fiveWords (tickFrom s p i .sets)) (tickFrom s p i .rounds) (sheetTicks s is (next p i))
-  unfolding sheetTicks
-  step i p e z is =
-      ap₂ (λ (a b : Bool). cond a (stops 13 p) (cond b (tickThen (fiveWords (tickFrom s p i .sets)) (tickFrom s p i .rounds) (sheetTicks s is (next p i))) (stops (tickFrom s p i .refusal) p)))
-      e (eq-eqb (tickFrom s p i .refusal) 0 z)
+    state-ok : T (tableStateOk w q)
+    unfolding tableStateOk isFresh readingsOk
+    state-ok = go (eqb (q .at) 0) refl
+      where
+        fresh : Bool
+        fresh = every 64 (λ u. eqb (reading (q .readings) u) 0)
 
-  -- the ticks of a ++ b are those of a, then those of b
-  record Parts (a b : List ℕ) (p : State) : Type 0 where
-    refusal : sheetTicks s (a ++ b) p .refusal ≡ sheetTicks s b (sheetTicks s a p .state) .refusal
-    state : sheetTicks s (a ++ b) p .state ≡ sheetTicks s b (sheetTicks s a p .state) .state
-    words : sheetTicks s (a ++ b) p .words ≡ sheetTicks s a p .words ++ sheetTicks s b (sheetTicks s a p .state) .words
+        sound-readings : Bool
+        sound-readings = every 64 (λ u. fits (has (timersIn w (q .at)) u) u)
 
-  parts : (a b : List ℕ) (p : State) → sheetTicks s a p .refusal ≡ 0 → Parts a b p
-  unfolding stops tickThen
-  parts [] b p h = unfold sheetTicks stops in (record { refusal = refl; state = refl; words = refl })
-  parts (i ∷ a) b p h =
-      let f = first-ok i a p h in
-      let ea = step i p (f .0) (f .1) a in
-      let eb = step i p (f .0) (f .1) (a ++ b) in
-      let r = parts a b (next p i) (sym (ap (λ (x : Ticks). x .refusal) ea) ∙ h) in
-      let same : sheetTicks s (i ∷ a) p .state ≡ sheetTicks s a (next p i) .state = ap (λ (x : Ticks). x .state) ea in
-      record {
-        refusal = ap (λ (x : Ticks). x .refusal) eb ∙ r .refusal ∙ ap (λ (x : State). sheetTicks s b x .refusal) (sym same);
-        state = ap (λ (x : Ticks). x .state) eb ∙ r .state ∙ ap (λ (x : State). sheetTicks s b x .state) (sym same);
-        words = ap (λ (x : Ticks). x .words) eb ∙ ap (λ (x : List ℕ). fiveWords (tickFrom s p i .sets) ++ x) (r .words)
-            ∙ sym (append-assoc (fiveWords (tickFrom s p i .sets)) (sheetTicks s a (next p i) .words) (sheetTicks s b (sheetTicks s a (next p i) .state) .words))
-            ∙ ap₂ (λ (x : List ℕ) (y : State). x ++ sheetTicks s b y .words) (sym (ap (λ (x : Ticks). x .words) ea)) (sym same);
-      }
+        go : (v : Bool) → eqb (q .at) 0 ≡ v → T (v && fresh || ltb 0 (q .at) && ltb (q .at) (bIn w) && sound-readings)
+        go true e =
+            let z : p .at ≡ 0 = sym (st .same) ∙ ap (maskIn w) (eqb-true (q .at) 0 e) ∙ mask-first w ok in
+            or-l fresh (ltb 0 (q .at) && ltb (q .at) (bIn w) && sound-readings)
+            (every-i 64 (λ u. eqb (reading (q .readings) u) 0) (λ u l.
+            of-true (eq-eqb (reading (q .readings) u) 0 (same u ∙ zeros u l (ap (λ (x : ℕ). has x u) (ap (running s) z ∙ running-none s) ∙ has-none u)))))
+        go false e =
+            let n = eqb-false (q .at) 0 e in
+            and-i (ltb 0 (q .at) && ltb (q .at) (bIn w)) sound-readings
+            (and-i (ltb 0 (q .at)) (ltb (q .at) (bIn w)) (lt→ltb 0 (q .at) (omega arith)) (lt→ltb (q .at) (bIn w) (st .low)))
+            (every-i 64 (λ u. fits (has (timersIn w (q .at)) u) u) (λ u l. reading-ok u l (has (timersIn w (q .at)) u) refl))
 
-  -- a first part is not refused where the whole is not
-  first-part : (a b : List ℕ) (p : State) → sheetTicks s (a ++ b) p .refusal ≡ 0 → sheetTicks s a p .refusal ≡ 0
-  unfolding tickThen
-  first-part [] b p h = unfold sheetTicks stops in refl
-  first-part (i ∷ a) b p h =
-      let f = first-ok i (a ++ b) p h in
-      ap (λ (x : Ticks). x .refusal) (step i p (f .0) (f .1) a)
-      ∙ first-part a b (next p i) (sym (ap (λ (x : Ticks). x .refusal) (step i p (f .0) (f .1) (a ++ b))) ∙ h)
+  -- ---- one call
 
-  -- five words for each tick
-  words-length : (ds : List ℕ) (p : State) → sheetTicks s ds p .refusal ≡ 0 → length (sheetTicks s ds p .words) ≡ 5 * length ds
-  unfolding tickThen fiveWords
-  words-length [] p e = unfold sheetTicks stops in refl
-  words-length (i ∷ ds) p e =
-      let f = first-ok i ds p e in
-      let g = step i p (f .0) (f .1) ds in
-      let r = words-length ds (next p i) (sym (ap (λ (x : Ticks). x .refusal) g) ∙ e) in
-      ap (λ (x : Ticks). length (x .words)) g ∙ omega arith
-
-  -- what every tick keeps, ticks keep
-  module _ (P : State → Type 0) (keeps : (p : State) (i : ℕ) → P p → P (next p i)) where
-    after : (ds : List ℕ) (p : State) → P p → sheetTicks s ds p .refusal ≡ 0 → P (sheetTicks s ds p .state)
-    unfolding tickThen
-    after [] p h e = unfold sheetTicks stops in h
-    after (i ∷ ds) p h e =
-        let f = first-ok i ds p e in
-        let g = step i p (f .0) (f .1) ds in
-        subst P (sym (ap (λ (x : Ticks). x .state) g)) (after ds (next p i) (keeps p i h) (sym (ap (λ (x : Ticks). x .refusal) g) ∙ e))
-
-  -- the readings of timers that do not run are 0
-  abbrev Zeros : State → Type 0
-  Zeros p = (u : ℕ) → u < 64 → has (running s (p .at)) u ≡ false → reading p u ≡ 0
-
-  zeros-next : (p : State) (i : ℕ) → Zeros (next p i)
-  unfolding stateAfter reading
-  zeros-next p i u l r =
-      let z = tickFrom s p i .sets in
-      next-reading (running s (z .modes)) (z .entered) (source s) (delay s) p u l ∙ rw r refl
-
-  -- the mode set is 0 or consistent
-  abbrev Steady : State → Type 0
-  Steady p = (p .at ≡ 0) ⊎ T (consistent s (p .at))
-
-  -- after a tick it is consistent
-  module _ (keeps : (y d i : ℕ) → (y ≡ 0) ⊎ T (consistent s y) → T (consistent s (tick s y d i .sets .modes))) where
-    consistent-next : (p : State) (i : ℕ) → Steady p → T (consistent s (next p i .at))
-    unfolding tickFrom stateAfter
-    consistent-next p i h = keeps (p .at) (dueTimers (running s (p .at)) p) i h
-
-    consistent-after : (ds : List ℕ) (p : State) → Steady p → sheetTicks s ds p .refusal ≡ 0 → (i : ℕ) → i < length ds
-        → T (consistent s (sheetTicks s (take (suc i) ds) p .state .at))
-    unfolding tickThen
-    consistent-after [] p h e i l = absurd (not-suc-le-zero l)
-    consistent-after (j ∷ ds) p h e i l =
-        let r = first-part (j ∷ take i ds) (drop i ds) p (subst (λ (x : List ℕ). sheetTicks s (j ∷ x) p .refusal ≡ 0) (sym (take-append-drop i ds)) e) in
-        let f = first-ok j (take i ds) p r in
-        let g = step j p (f .0) (f .1) (take i ds) in
-        subst (λ (x : Ticks). T (consistent s (x .state .at))) (sym g)
-        (after (λ x. T (consistent s (x .at))) (λ x k c. consistent-next x k (inr c)) (take i ds) (next p j) (consistent-next p j h) (sym (ap (λ (x : Ticks). x .refusal) g) ∙ r))
-
--- ---- the runs
-
-module _ (s : List ℕ) (sd : Sound s) (listed : List ℕ)
-    (short : length listed ≤ 4095)
-    (each : (x : ℕ) → T (isIn x listed) → (0 < x) × (size 64 (running s x) ≤ 6))
-    (closed : Closed s listed)
-    (keeps : (y d i : ℕ) → (y ≡ 0) ⊎ T (consistent s y) → T (consistent s (tick s y d i .sets .modes))) where
-  abbrev t : List ℕ
-  t = tbl s listed
-
-  -- one call: the table's run R from q, and the sheet's ticks S from p on its done sets
-  record CallRight (q p : State) (c : Call) (ds : List ℕ) (R : Run) (S : Ticks) : Type 0 where
+  -- the table's run R from q, and the sheet's ticks S on its done sets
+  record CallRight (q : State) (c : Call) (ds : List ℕ) (R : Run) (S : Ticks) : Type 0 where
     unrefused : S .refusal ≡ 0
     done : R .done ≡ length ds
     words : doneWords R ≡ S .words
     refusal : R .refusal ≡ refusalOf (kOf s) c
-    stands : Stands s sd listed (R .state) (S .state)
+    stands : Stands s sd w ok f (R .state) (S .state)
     right : Right s (S .state)
     still : length ds ≡ 0 → R .state ≡ q
 
   -- a call is refused neither 15 nor 14, so it is refused 12 or the ticks agree
-  call-right : (q p : State) (c : Call) → Stands s sd listed q p → Right s p → Zeros s p
-      → CallRight q p c (doneSets (kOf s) c) (tableRun t q (c .inputs) (c .out)) (sheetTicks s (doneSets (kOf s) c) p)
+  call-right : (q p : State) (c : Call) → Stands s sd w ok f q p → Right s p → Zeros s p
+      → CallRight q c (doneSets (kOf s) c) (tableRun w q (c .inputs) (c .out)) (sheetTicks s (doneSets (kOf s) c) p)
   unfolding doneSets refusalOf tableRun ran doneWords overwritten
-  call-right q p c st r zs =
-      subst (λ (X : Run). CallRight q p c (doneSets (kOf s) c) X (sheetTicks s (doneSets (kOf s) c) p)) (sym is-run) (go (outputShort is (c .out)) refl)
+  call-right q p c st r zs = go (outputShort is (c .out)) refl
     where
       is : List ℕ
       is = c .inputs
 
-      is-run : tableRun t q is (c .out) ≡ ran (c .out) (cond (outputShort is (c .out)) (stops 12 q) (tableTicks t is q))
-      is-run =
-          ap₂ (λ (a b : Bool). ran (c .out) (cond (not a) (stops 15 q) (cond (not b) (stops 14 q) (cond (outputShort is (c .out)) (stops 12 q) (tableTicks t is q)))))
-          (is-true (tableOk t) (table-ok s sd listed short each closed))
-          (is-true (tableStateOk t q) (state-ok s sd listed short each closed q p st r zs))
+      layout : refusedIf (not (tableOk w)) 15 ≡ 0
+      layout = unfold refusedIf in (ap (λ (b : Bool). cond (not b) 15 0) (is-true (tableOk w) ok))
+
+      admitted : tableStateOk w q ≡ true
+      admitted = is-true (tableStateOk w q) (state-ok q p st r zs)
 
       go : (b : Bool) → outputShort is (c .out) ≡ b
-          → CallRight q p c (cond b [] (legal (kOf s) is)) (ran (c .out) (cond b (stops 12 q) (tableTicks t is q))) (sheetTicks s (cond b [] (legal (kOf s) is)) p)
+          → CallRight q c (cond b [] (legal (kOf s) is)) (tableRun w q is (c .out)) (sheetTicks s (cond b [] (legal (kOf s) is)) p)
       go true e =
-          unfold sheetTicks stops in
+          subst (λ (X : Run). CallRight q c [] X (sheetTicks s [] p))
+          (sym (run-short (kIn w) (tableStep w) (refusedIf (not (tableOk w)) 15) (tableStateOk w q) q is (c .out) layout admitted e))
+          (unfold ticks stops in
           record {
             unrefused = refl;
             done = refl;
@@ -197,174 +122,125 @@ module _ (s : List ℕ) (sd : Sound s) (listed : List ℕ)
             stands = st;
             right = r;
             still = λ k. refl;
-          }
+          })
       go false e =
-          let g = ticks-agree s sd listed closed is q p st r in
-          let five = ap length (g .words) ∙ words-length s (legal (kOf s) is) p (g .unrefused) ∙ ap (λ (n : ℕ). 5 * n) (sym (g .done)) in
-          record {
+          let g = ticks-agree s sd w ok f is q p st r in
+          let ds = legal (kOf s) is in
+          let five : length (tableTicks w is q .words) ≡ 5 * tableTicks w is q .done =
+          ap length (g .words) ∙ words-five (kOf s) (sheetStep s) (five-long s) ds p
+          ∙ ap (λ (n : ℕ). 5 * n) (done-all (kOf s) (sheetStep s) ds p (g .unrefused) ∙ sym (g .done)) in
+          subst (λ (X : Run). CallRight q c ds X (sheetTicks s ds p))
+          (sym (run-goes (kIn w) (tableStep w) (refusedIf (not (tableOk w)) 15) (tableStateOk w q) q is (c .out) layout admitted e))
+          (record {
             unrefused = g .unrefused;
             done = g .done;
-            words = take-at (tableTicks t is q .words) _ (5 * tableTicks t is q .done) five ∙ g .words;
+            words = take-at (tableTicks w is q .words) _ (5 * tableTicks w is q .done) five ∙ g .words;
             refusal = g .refusal ∙ sym (ap (λ (b : Bool). cond b 12 (cond (ltb (length (legal (kOf s) is)) (length is)) 13 0)) e);
             stands = g .stands;
             right = g .right;
             still = g .still;
-          }
+          })
+
+  -- ---- a list of calls
 
   -- the done sets of calls
   abbrev D : List Call → List ℕ
   D cs = flatten (map (doneSets (kOf s)) cs)
 
-  -- the runs after the first, as runs of the whole list
-  later : (q p : State) (c : Call) (cs : List Call) → sheetTicks s (doneSets (kOf s) c) p .refusal ≡ 0
-      → (j : ℕ) (e : Call) → RunRight s t (tableRun t q (c .inputs) (c .out) .state) (sheetTicks s (doneSets (kOf s) c) p .state) cs j e
-      → RunRight s t q p (c ∷ cs) (suc j) e
-  unfolding runOf runsFrom sheetBy flatten
-  later q p c cs unrefused j e r =
-      record {
-        refusal = r .refusal;
-        done = r .done;
-        none = λ z. r .none z ∙ same j;
-        readings = λ l. r .readings l ∙ ap (λ (x : State). x .readings) (sym by-parts);
-        block = r .block;
-        mask = λ l. r .mask l ∙ ap (λ (x : State). x .at) (sym by-parts);
-      }
-    where
-      same : (k : ℕ) → stateBefore s t (tableRun t q (c .inputs) (c .out) .state) (sheetTicks s (doneSets (kOf s) c) p .state) cs k ≡ stateBefore s t q p (c ∷ cs) (suc k)
-      same zero = unfold stateBefore runOf runsFrom in refl
-      same (suc k) = unfold stateBefore runOf runsFrom in refl
+  -- what is left after the first call c, from its states
+  module _ (q p : State) (c : Call) (cs : List Call) where
+    abbrev ds : List ℕ
+    ds = doneSets (kOf s) c
 
-      by-parts : sheetTicks s (doneSets (kOf s) c ++ D (take (suc j) cs)) p .state ≡ sheetTicks s (D (take (suc j) cs)) (sheetTicks s (doneSets (kOf s) c) p .state) .state
-      by-parts = parts s (doneSets (kOf s) c) (D (take (suc j) cs)) p unrefused .state
+    abbrev R : Run
+    R = tableRun w q (c .inputs) (c .out)
 
-  -- the first run
-  first-run : (q p : State) (c : Call) (cs : List Call) → CallRight q p c (doneSets (kOf s) c) (tableRun t q (c .inputs) (c .out)) (sheetTicks s (doneSets (kOf s) c) p)
-      → RunRight s t q p (c ∷ cs) 0 c
-  unfolding runOf runsFrom sheetBy flatten stateBefore
-  first-run q p c cs h =
-      let b = tableRun t q (c .inputs) (c .out) .state .at in
-      let one = sym (append-nil (doneSets (kOf s) c)) in
-      record {
-        refusal = h .refusal;
-        done = h .done;
-        none = λ z. h .still (sym (h .done) ∙ z);
-        readings = λ l. h .stands .readings ∙ ap (λ (x : List ℕ). sheetTicks s x p .state .readings) one;
-        block = λ l. omega (arith, h .stands .low, b-in s listed);
-        mask = λ l. mask-in s listed b (h .stands .low) ∙ h .stands .same ∙ ap (λ (x : List ℕ). sheetTicks s x p .state .at) one;
-      }
+    abbrev S : Ticks
+    S = sheetTicks s ds p
 
-  -- from states that stand for each other, every list of calls is served
-  served : (cs : List Call) (q p : State) → Stands s sd listed q p → Right s p → Zeros s p → Steady s p → Served s t q p cs
-  unfolding allDone flatten runsFrom
-  served [] q p st r zs sy = unfold sheetTicks stops in record { unrefused = refl; words = refl; consistently = λ i l. absurd (not-suc-le-zero l); runs = λ j l. absurd (not-suc-le-zero l) }
-  served (c ∷ cs) q p st r zs sy = go (call-right q p c st r zs) (served cs (tableRun t q (c .inputs) (c .out) .state) (sheetTicks s (doneSets (kOf s) c) p .state))
-    where
-      ds : List ℕ
-      ds = doneSets (kOf s) c
+    -- the sheet's ticks on the done sets of c, then on those of later calls
+    split : S .refusal ≡ 0 → (more : List ℕ) → sheetTicks s (ds ++ more) p ≡ ticksThen S (sheetTicks s more (S .state))
+    split unrefused more = ticks-split (kOf s) (sheetStep s) ds more p unrefused
 
-      R : Run
-      R = tableRun t q (c .inputs) (c .out)
-
-      S : Ticks
-      S = sheetTicks s ds p
-
-      go : CallRight q p c ds R S
-          → (Stands s sd listed (R .state) (S .state) → Right s (S .state) → Zeros s (S .state) → Steady s (S .state) → Served s t (R .state) (S .state) cs)
-          → Served s t q p (c ∷ cs)
-      go h ih =
-          record {
-            unrefused = whole;
-            words = ap₂ (λ (x y : List ℕ). x ++ y) (h .words) (rest .words) ∙ sym (two .words);
-            consistently = consistent-after s keeps (ds ++ D cs) p sy whole;
-            runs = at;
-          }
-        where
-          rest : Served s t (R .state) (S .state) cs
-          rest =
-              ih (h .stands) (h .right)
-              (after s (Zeros s) (λ x i k. zeros-next s x i) ds p zs (h .unrefused))
-              (after s (Steady s) (λ x i k. inr (consistent-next s keeps x i k)) ds p sy (h .unrefused))
-
-          two : Parts s ds (D cs) p
-          two = parts s ds (D cs) p (h .unrefused)
-
-          whole : sheetTicks s (ds ++ D cs) p .refusal ≡ 0
-          whole = two .refusal ∙ rest .unrefused
-
-          at : (j : ℕ) → j < suc (length cs) → RunRight s t q p (c ∷ cs) j (getD (c ∷ cs) j (record { inputs = []; out = [] }))
-          at zero l = first-run q p c cs h
-          at (suc j) l = later q p c cs (h .unrefused) j (getD cs j (record { inputs = []; out = [] })) (rest .runs j (le-of-suc-le-suc l))
-
--- ---- from compile and power-on
-
--- the table that a compile leaves where it is not refused
-compile-ok : (s work table : List ℕ) → compile s work table .refusal ≡ 0
-    → (sheetRefusal s ≡ 0) × (walk s (length work) .refusal ≡ 0)
-    × (take (compile s work table .tableLength) (compile s work table .table) ≡ tableWords s (walk s (length work) .listed))
-unfolding compile overwritten
-compile-ok s work table h =
-    go (ltb 0 (sheetRefusal s)) (ltb 0 (o .refusal)) (ltb (length table) (length (tableWords s (o .listed)))) refl refl h
-  where
-    o : Walk
-    o = walk s (length work)
-
-    words : List ℕ
-    words = tableWords s (o .listed)
-
-    refused : ℕ → List ℕ → Compiled
-    refused e listed = record { refusal = e; f = length listed; tableLength = 0; work = overwritten listed work; table = table }
-
-    res : Bool → Bool → Bool → Compiled
-    res a b c =
-        cond a (refused (sheetRefusal s) [])
-        (cond b (refused (o .refusal) (o .listed))
-        (cond c (refused 10 (o .listed))
-        (record { refusal = 0; f = length (o .listed); tableLength = length words; work = overwritten (o .listed) work; table = overwritten words table })))
-
-    go : (a b c : Bool) → ltb 0 (sheetRefusal s) ≡ a → ltb 0 (o .refusal) ≡ b → res a b c .refusal ≡ 0
-        → (sheetRefusal s ≡ 0) × (o .refusal ≡ 0) × (take (res a b c .tableLength) (res a b c .table) ≡ words)
-    go true b c ea eb k = let z : sheetRefusal s ≡ 0 = k in absurd (omega (arith, ltb-true 0 (sheetRefusal s) ea))
-    go false true c ea eb k = let z : o .refusal ≡ 0 = k in absurd (omega (arith, ltb-true 0 (o .refusal) eb))
-    go false false true ea eb k = absurd (suc-ne-zero 9 k)
-    go false false false ea eb k =
-        (le-zero (ltb-false 0 (sheetRefusal s) ea), le-zero (ltb-false 0 (o .refusal) eb), take-append-seam words (drop (length words) table))
-
--- a consistent set has the root, so it is not 0
-consistent-pos : (s : List ℕ) (x : ℕ) → T (consistent s x) → 0 < x
-unfolding consistent
-consistent-pos s x h = go (eq-zero-or-pos x) (allOf-e _ h .1 .0)
-  where
-    go : (x ≡ 0) ⊎ (0 < x) → T (has x 0) → 0 < x
-    go (inl e) k = absurd (subst T (ap (λ (y : ℕ). has y 0) e ∙ has-none 0) k)
-    go (inr l) k = l
-
--- the theorem, from the one fact that a tick leaves a consistent set
-pub whole-list-from : ((s : List ℕ) → Sound s → (y d i : ℕ) → (y ≡ 0) ⊎ T (consistent s y) → T (consistent s (tick s y d i .sets .modes)))
-    → WholeList
-unfolding WholeList
-whole-list-from keeps s work table h cs =
-    let ok = compile-ok s work table h in
-    subst (λ (x : List ℕ). Served s x powerOn powerOn cs) (sym (ok .2)) (go (sound s (ok .0)) (ok .1))
-  where
-    go : Sound s → walk s (length work) .refusal ≡ 0 → Served s (tableWords s (walk s (length work) .listed)) powerOn powerOn cs
-    go sd z =
-        served s sd listed short each (fine .1) (keeps s sd) cs powerOn powerOn
-        stands (right-fresh s powerOn (unfold powerOn in refl)) zeros (unfold powerOn in (inl refl))
+    -- the runs after the first, as runs of the whole list
+    later : S .refusal ≡ 0 → (j : ℕ) (e : Call) → RunRight s w (R .state) (S .state) cs j e → RunRight s w q p (c ∷ cs) (suc j) e
+    unfolding runOf runsFrom sheetBy flatten ticksThen
+    later unrefused j e r =
+        record {
+          refusal = r .refusal;
+          done = r .done;
+          none = λ z. r .none z ∙ before j;
+          readings = λ l. r .readings l ∙ ap (λ (x : Ticks). x .state .readings) (sym two);
+          block = r .block;
+          mask = λ l. r .mask l ∙ ap (λ (x : Ticks). x .state .at) (sym two);
+        }
       where
-        listed : List ℕ
-        listed = walk s (length work) .listed
+        before : (k : ℕ) → stateBefore s w (R .state) (S .state) cs k ≡ stateBefore s w q p (c ∷ cs) (suc k)
+        before zero = unfold stateBefore runOf runsFrom in refl
+        before (suc k) = unfold stateBefore runOf runsFrom in refl
 
-        short : length listed ≤ 4095
-        short = le-trans (walk-few s (length work)) (min-le-right (length work) 4095)
+        two : sheetTicks s (ds ++ D (take (suc j) cs)) p ≡ ticksThen S (sheetTicks s (D (take (suc j) cs)) (S .state))
+        two = split unrefused (D (take (suc j) cs))
 
-        fine : Fine s listed × Closed s listed
-        fine = walk-closed s (keeps s sd) (length work) z
+    -- the first run
+    first-run : CallRight q c ds R S → RunRight s w q p (c ∷ cs) 0 c
+    unfolding runOf runsFrom sheetBy flatten stateBefore
+    first-run h =
+        let one = sym (append-nil ds) in
+        record {
+          refusal = h .refusal;
+          done = h .done;
+          none = λ z. h .still (sym (h .done) ∙ z);
+          readings = λ l. h .stands .readings ∙ ap (λ (x : List ℕ). sheetTicks s x p .state .readings) one;
+          block = λ l. h .stands .low;
+          mask = λ l. h .stands .same ∙ ap (λ (x : List ℕ). sheetTicks s x p .state .at) one;
+        }
 
-        each : (x : ℕ) → T (isIn x listed) → (0 < x) × (size 64 (running s x) ≤ 6)
-        each x k = let r = fine .0 x k in (consistent-pos s x (r .0), r .1)
+  module _ (keeps : (y d i : ℕ) → (y ≡ 0) ⊎ T (consistent s y) → T (consistent s (tick s y d i .sets .modes))) where
+    -- from states that stand for each other, every list of calls is served
+    served : (cs : List Call) (q p : State) → Stands s sd w ok f q p → Right s p → Zeros s p → Steady s p → Served s w q p cs
+    unfolding allDone flatten runsFrom
+    served [] q p st r zs sy =
+        unfold ticks stops in
+        record { unrefused = refl; words = refl; consistently = λ i l. absurd (not-suc-le-zero l); runs = λ j l. absurd (not-suc-le-zero l) }
+    served (c ∷ cs) q p st r zs sy = go (call-right q p c st r zs) (served cs (R q p c cs .state) (S q p c cs .state))
+      where
+        go : CallRight q c (ds q p c cs) (R q p c cs) (S q p c cs)
+            → (Stands s sd w ok f (R q p c cs .state) (S q p c cs .state) → Right s (S q p c cs .state) → Zeros s (S q p c cs .state)
+            → Steady s (S q p c cs .state) → Served s w (R q p c cs .state) (S q p c cs .state) cs)
+            → Served s w q p (c ∷ cs)
+        go h ih =
+            unfold ticksThen in
+            record {
+              unrefused = whole;
+              words = ap₂ (λ (x y : List ℕ). x ++ y) (h .words) (rest .words) ∙ ap (λ (x : Ticks). x .words) (sym two);
+              consistently = consistent-after s keeps (ds q p c cs ++ D cs) p sy whole;
+              runs = at;
+            }
+          where
+            rest : Served s w (R q p c cs .state) (S q p c cs .state) cs
+            rest =
+                ih (h .stands) (h .right)
+                (ticks-keep (kOf s) (sheetStep s) (Zeros s) (λ x i _ _. unfold sheetStep in (zeros-next s x _)) (ds q p c cs) p zs)
+                (steady-after s keeps (ds q p c cs) p sy)
 
-        stands : Stands s sd listed powerOn powerOn
-        stands = unfold powerOn in (record { low = zero-le; same = refl; readings = refl })
+            two : sheetTicks s (ds q p c cs ++ D cs) p ≡ ticksThen (S q p c cs) (sheetTicks s (D cs) (S q p c cs .state))
+            two = split q p c cs (h .unrefused) (D cs)
 
-        zeros : Zeros s powerOn
-        zeros = unfold powerOn reading in (λ u l r. getD-replicate 64 u 0 0 l)
+            whole : sheetTicks s (ds q p c cs ++ D cs) p .refusal ≡ 0
+            whole = ap (λ (x : Ticks). x .refusal) two ∙ (unfold ticksThen in (rest .unrefused))
+
+            at : (j : ℕ) → j < suc (length cs) → RunRight s w q p (c ∷ cs) j (getD (c ∷ cs) j (record { inputs = []; out = [] }))
+            at zero l = first-run q p c cs h
+            at (suc j) l = later q p c cs (h .unrefused) j (getD cs j (record { inputs = []; out = [] })) (rest .runs j (le-of-suc-le-suc l))
+
+-- from power-on, by the one fact that a tick leaves a consistent set
+pub faithful-serves-from : ((s : List ℕ) → Sound s → (y d i : ℕ) → (y ≡ 0) ⊎ T (consistent s y) → T (consistent s (tick s y d i .sets .modes)))
+    → FaithfulServes
+unfolding FaithfulServes
+faithful-serves-from keeps s w passes ok f cs =
+    let sd = sound s passes in
+    served s sd w ok f (keeps s sd) cs powerOn powerOn (stands sd) (right-fresh s powerOn (unfold powerOn in refl)) (zeros-fresh s) (unfold powerOn in (inl refl))
+  where
+    stands : (sd : Sound s) → Stands s sd w ok f powerOn powerOn
+    stands sd = unfold powerOn in (record { low = b-pos w ok; same = mask-first w ok; readings = refl })

@@ -1,241 +1,208 @@
--- A tick of the table's run is a tick of the sheet. Assumes nothing.
+-- A tick of a faithful table is a tick of its sheet; so are the ticks of a list. Assumes nothing.
 use mathlib.Core.Path.{_≡_, refl, sym, ap, ap₂, _∙_, subst}
 use mathlib.Core.Bool.{Bool, true, false, cond}
 use mathlib.Core.List.{List, [], _∷_, _++_}
-use Prim.Native.Nat.{ℕ, suc, _+_, _-_, _*_, _/_, _%_, _^_, _≤_, _<_}
+use Prim.Native.Nat.{ℕ, suc, _+_, _*_, _/_, _%_, _^_, _<_}
 use native.Mathlib.Nat.{suc-ne-zero, zero-lt-suc}
 use native.Mathlib.Omega.{arith}
 use lib.Dec.{T, eqb, ltb, eqb→eq, leb·suc-suc}
-use lib.Arith.{digits-lt, digits-div, digits-mod}
-use lib.Pow.{pow-add}
+use lib.Arith.{digits-div, digits-mod}
 use lib.ListN.{length, getD}
-use borrow.Author.Tests.{eq-eqb, leb-false, lt-ltb}
-use Rattle.sets.specs.Sets.{has, members, size, someIn}
-use Rattle.sets.proofs.Tests.{is-true, is-false, cond-ext}
+use borrow.Author.Tests.{leb-false, lt-ltb}
+use Rattle.sets.specs.Sets.{has, members, someIn}
+use Rattle.sets.proofs.Tests.{is-false}
 use Rattle.sets.proofs.Facts.{someIn-e}
-use Rattle.meaning.specs.Lists.{rowFrom, isIn, place}
-use Rattle.meaning.specs.Sheet.{kOf, tOf, source}
-use Rattle.meaning.specs.Reaction.{TickSets, delay, isTimer, running}
+use Rattle.meaning.specs.Lists.{rowFrom, refusedIf}
+use Rattle.meaning.specs.Sheet.{kOf, source}
+use Rattle.meaning.specs.Reaction.{TickSets, delay, running}
 use Rattle.meaning.specs.Tick.{Tick, tick, fiveWords}
-use Rattle.meaning.specs.Run.{State, reading, dueTimers, nextReadings, Ticks, stops, tickThen, inputForeign}
-use Rattle.meaning.specs.SheetRun.{tickFrom, stateAfter, sheetTicks}
-use Rattle.meaning.specs.Table.{kIn, sourceIn, delayIn, timersIn, cellWord}
-use Rattle.meaning.specs.TableRun.{dueNumber, cellOf, stateAfterCell, isStale, tableTicks}
-use Rattle.meaning.specs.Compile.{dueSet, cellCount, cellTick, cellWords, timerWord}
+use Rattle.meaning.specs.Run.{State, reading, dueTimers, nextReadings, nextState, Step, Ticks, stops, tickThen, inputForeign, tickRefusal, ticks}
+use Rattle.meaning.specs.SheetRun.{tickFrom, stateAfter, sheetStep, sheetTicks}
+use Rattle.meaning.specs.Table.{kIn, bIn, sourceIn, delayIn, maskIn, timersIn, cellsIn, cellWord, tableOk}
+use Rattle.meaning.specs.TableRun.{dueNumber, cellOf, stateAfterCell, isStale, tableStep, tableTicks}
+use Rattle.meaning.specs.Compile.{dueSet, cellTick}
+use Rattle.meaning.specs.Faithful.{faithful}
 use Rattle.meaning.specs.WholeList.{legal}
-use Rattle.meaning.proofs.ListLaws.{rowFrom-ext}
-use Rattle.meaning.proofs.ListedLaws.{place-at}
 use Rattle.meaning.proofs.SheetLaws.{Sound}
 use Rattle.meaning.proofs.TickLaws.{running-e}
-use Rattle.meaning.proofs.RunLaws.{delay-small, Right, right-next}
-use Rattle.meaning.proofs.WalkLaws.{Closed}
-use Rattle.meaning.proofs.TableLaws.{tbl, maskOf, k-in, timer-word, timers-in, cell-in, dueSet-dueTimers, dueNumber-lt}
+use Rattle.meaning.proofs.ReadingLaws.{Right, right-next, next-readings-ext}
+use Rattle.meaning.proofs.RunLaws.{tick-known, ticks-foreign, ticks-go}
+use Rattle.meaning.proofs.TableLaws.{dueSet-dueTimers, cell-lt}
+use Rattle.meaning.proofs.LayoutLaws.{next-lt}
+use Rattle.meaning.proofs.FaithfulLaws.{CellTrue, k-same, block-true, source-same, delay-same}
 
--- ---- readings after a tick agree where sources and delays do on the running timers
-
-nextReadings-ext : (timers entered : ℕ) (f f′ g g′ : ℕ → ℕ) (q p : State)
-    → ((u : ℕ) → T (has timers u) → (f u ≡ f′ u) × (g u ≡ g′ u)) → q .readings ≡ p .readings
-    → nextReadings timers entered f g q ≡ nextReadings timers entered f′ g′ p
-unfolding nextReadings reading
-nextReadings-ext timers entered f f′ g g′ q p h e =
-    rowFrom-ext (λ u. cond (has timers u) (cond (has entered (f u)) (g u) (getD (q .readings) u 0 - 1)) 0)
-    (λ u. cond (has timers u) (cond (has entered (f′ u)) (g′ u) (getD (p .readings) u 0 - 1)) 0) 0 64 (λ u a b.
-    cond-ext (has timers u) (cond (has entered (f u)) (g u) (getD (q .readings) u 0 - 1)) (cond (has entered (f′ u)) (g′ u) (getD (p .readings) u 0 - 1)) 0 (λ k.
-    ap₂ (λ (x y : ℕ). cond (has entered x) y (getD (q .readings) u 0 - 1)) (h u k .0) (h u k .1)
-    ∙ ap (λ (r : List ℕ). cond (has entered (f′ u)) (g′ u) (getD r u 0 - 1)) e))
-
--- ---- one tick
-
-module _ (s : List ℕ) (sd : Sound s) (listed : List ℕ) where
-  abbrev t : List ℕ
-  t = tbl s listed
-
-  -- a timer's word: source and delay
-  pub source-in : (u : ℕ) → u < tOf s → T (isTimer s u) → sourceIn t u ≡ source s u
-  unfolding sourceIn timerWord
-  source-in u l h =
-      ap (λ (x : ℕ). x / 65536) (timer-word s listed u l ∙ ap (λ (b : Bool). cond b (source s u * 65536 + delay s u) 0) (is-true (isTimer s u) h))
-      ∙ digits-div (source s u) (delay-small s sd u l h)
-
-  pub delay-in : (u : ℕ) → u < tOf s → T (isTimer s u) → delayIn t u ≡ delay s u
-  unfolding delayIn timerWord
-  delay-in u l h =
-      ap (λ (x : ℕ). x % 65536) (timer-word s listed u l ∙ ap (λ (b : Bool). cond b (source s u * 65536 + delay s u) 0) (is-true (isTimer s u) h))
-      ∙ digits-mod (source s u) (delay-small s sd u l h)
-
+module _ (s : List ℕ) (sd : Sound s) (w : List ℕ) (ok : T (tableOk w)) (f : T (faithful s w)) where
   -- the table's state q stands for the sheet's state p
   pub record Stands (q p : State) : Type 0 where
-    pub low : q .at ≤ length listed
-    pub same : maskOf s listed (q .at) ≡ p .at
+    pub low : q .at < bIn w
+    pub same : maskIn w (q .at) ≡ p .at
     pub readings : q .readings ≡ p .readings
 
-  -- both have the same running timers and the same due ones
+  -- ---- one tick
+
   module _ (q p : State) (st : Stands q p) where
-    pub timers-stand : timersIn t (q .at) ≡ running s (p .at)
-    timers-stand = timers-in s listed (q .at) (st .low) ∙ ap (running s) (st .same)
+    -- both have the same running timers and the same due ones
+    pub timers-stand : timersIn w (q .at) ≡ running s (p .at)
+    timers-stand = block-true s w f (q .at) (st .low) .timers ∙ ap (running s) (st .same)
 
-    due-stand : dueTimers (timersIn t (q .at)) q ≡ dueTimers (running s (p .at)) p
-    unfolding dueTimers reading
-    due-stand = ap₂ (λ (x : ℕ) (r : List ℕ). dueTimers x (record { at = 0; readings = r })) timers-stand (st .readings)
+    due-stand : dueTimers (timersIn w (q .at)) (q .readings) ≡ dueTimers (running s (p .at)) (p .readings)
+    due-stand = ap₂ dueTimers timers-stand (st .readings)
 
-  -- the chosen cell is the sheet's tick
-  module _ (q p : State) (st : Stands q p) (i : ℕ) (li : i < 2 ^ kOf s) where
-    abbrev c : ℕ
-    c = cellOf t q i
+    module _ (i : ℕ) (known : inputForeign (kOf s) i ≡ false) where
+      abbrev timers : ℕ
+      timers = running s (p .at)
 
-    abbrev timers : ℕ
-    timers = running s (p .at)
+      abbrev d : ℕ
+      d = dueNumber (members 64 timers) (dueTimers timers (p .readings))
 
-    abbrev d : ℕ
-    d = dueNumber (members 64 timers) (dueTimers timers p)
+      abbrev c : ℕ
+      c = cellOf w q i
 
-    cell-is : c ≡ d * 2 ^ kOf s + i
-    unfolding cellOf
-    cell-is =
-        ap₂ (λ (x y : ℕ). dueNumber (members 64 x) y * 2 ^ kIn t + i) (timers-stand q p st) (due-stand q p st)
-        ∙ ap (λ (k : ℕ). d * 2 ^ k + i) (k-in s listed)
+      below : i < 2 ^ kOf s
+      unfolding inputForeign
+      below = leb-false (2 ^ kOf s) i known
 
-    pub cell-lt : c < cellCount s (maskOf s listed (q .at))
-    unfolding cellCount size
-    cell-lt =
-        let h : d * 2 ^ kOf s + i < 2 ^ size 64 timers * 2 ^ kOf s = digits-lt (dueNumber-lt (members 64 timers) (dueTimers timers p)) li in
-        let g : 2 ^ (size 64 (running s (maskOf s listed (q .at))) + kOf s) ≡ 2 ^ size 64 timers * 2 ^ kOf s
-        = ap (λ (x : ℕ). 2 ^ (size 64 (running s x) + kOf s)) (st .same) ∙ pow-add 2 (size 64 timers) (kOf s) in
-        omega (arith, cell-is)
+      cell-is : c ≡ d * 2 ^ kOf s + i
+      unfolding cellOf
+      cell-is =
+          ap₂ (λ (x y : ℕ). dueNumber (members 64 x) y * 2 ^ kIn w + i) timers-stand due-stand
+          ∙ ap (λ (k : ℕ). d * 2 ^ k + i) (k-same s w f)
 
-    pub cell-tick : cellTick s (maskOf s listed (q .at)) c ≡ tickFrom s p i
-    unfolding cellTick tickFrom
-    cell-tick =
-        ap₂ (λ (x k : ℕ). tick s x (dueSet (members 64 (running s x)) (k / 2 ^ kOf s)) (k % 2 ^ kOf s)) (st .same) cell-is
-        ∙ ap₂ (λ (e j : ℕ). tick s (p .at) e j)
-        (ap (dueSet (members 64 timers)) (digits-div d li) ∙ dueSet-dueTimers timers p)
-        (digits-mod d li)
+      there : c < cellsIn w (q .at)
+      there = cell-lt w q i (subst (λ (k : ℕ). i < 2 ^ k) (sym (k-same s w f)) below)
 
-    -- the sets of the tick, and where its mode set is listed
-    abbrev z : TickSets
-    z = tickFrom s p i .sets
+      -- the chosen cell is the sheet's tick
+      cell-tick : cellTick s (maskIn w (q .at)) c ≡ tickFrom s p i
+      unfolding cellTick tickFrom
+      cell-tick =
+          ap₂ (λ (x k : ℕ). tick s x (dueSet (members 64 (running s x)) (k / 2 ^ kOf s)) (k % 2 ^ kOf s)) (st .same) cell-is
+          ∙ ap₂ (λ (e j : ℕ). tick s (p .at) e j)
+          (ap (dueSet (members 64 timers)) (digits-div d below) ∙ dueSet-dueTimers timers (p .readings))
+          (digits-mod d below)
 
-    module _ (known : T (isIn (z .modes) listed)) where
-      abbrev q′ : State
-      q′ = stateAfterCell t q c
+      true-cell : CellTrue s w (q .at) c
+      true-cell = block-true s w f (q .at) (st .low) .cells c there
 
-      next-block : cellWord t (q .at) c 0 ≡ suc (place (z .modes) listed)
-      unfolding cellWords
-      next-block =
-          cell-in s listed (q .at) c 0 (st .low) cell-lt (omega arith)
-          ∙ ap (λ (o : Tick). suc (place (o .sets .modes) listed)) cell-tick
+      abbrev z : TickSets
+      z = tickFrom s p i .sets
 
-      pub words-in : rowFrom 1 5 (cellWord t (q .at) c) ≡ fiveWords z
-      unfolding rowFrom fiveWords cellWords
-      words-in =
-          rowFrom-ext (cellWord t (q .at) c) (λ j. getD (cellWords s listed (maskOf s listed (q .at)) c) j 0) 1 5
-          (λ j a b. cell-in s listed (q .at) c j (st .low) cell-lt (omega arith))
-          ∙ ap (λ (o : Tick). fiveWords (o .sets)) cell-tick
+      pub tick-good : tickFrom s p i .refusal ≡ 0
+      tick-good = ap (λ (o : Tick). o .refusal) (sym cell-tick) ∙ true-cell .unrefused
 
-      entered-in : cellWord t (q .at) c 1 ≡ z .entered
-      unfolding cellWords fiveWords
-      entered-in = cell-in s listed (q .at) c 1 (st .low) cell-lt (omega arith) ∙ ap (λ (o : Tick). o .sets .entered) cell-tick
+      words-same : rowFrom 1 5 (cellWord w (q .at) c) ≡ fiveWords z
+      words-same = true-cell .words ∙ ap (λ (o : Tick). fiveWords (o .sets)) cell-tick
 
-      next-low : q′ .at ≤ length listed
-      unfolding stateAfterCell
-      next-low = omega (arith, next-block, place-at (z .modes) listed known .0)
+      entered-same : cellWord w (q .at) c 1 ≡ z .entered
+      unfolding rowFrom fiveWords
+      entered-same = ap (λ (l : List ℕ). getD l 0 0) words-same
 
-      next-same : maskOf s listed (q′ .at) ≡ z .modes
-      unfolding stateAfterCell
-      next-same = ap (λ (b : ℕ). getD (0 ∷ listed) b 0) next-block ∙ place-at (z .modes) listed known .1
+      abbrev next : ℕ
+      next = cellWord w (q .at) c 0
 
-      next-timers : timersIn t (q′ .at) ≡ running s (z .modes)
-      next-timers = timers-in s listed (q′ .at) next-low ∙ ap (running s) next-same
+      next-low : next < bIn w
+      next-low = next-lt w ok (q .at) (st .low) c there
 
-      next-readings : q′ .readings ≡ stateAfter s p z .readings
-      unfolding stateAfterCell stateAfter
+      next-same : maskIn w next ≡ z .modes
+      next-same = true-cell .next ∙ ap (λ (o : Tick). o .sets .modes) cell-tick
+
+      next-timers : timersIn w next ≡ running s (z .modes)
+      next-timers = block-true s w f next next-low .timers ∙ ap (running s) next-same
+
+      next-readings : nextReadings (timersIn w next) (cellWord w (q .at) c 1) (sourceIn w) (delayIn w) (q .readings)
+          ≡ nextReadings (running s (z .modes)) (z .entered) (source s) (delay s) (p .readings)
       next-readings =
-          ap₂ (λ (x y : ℕ). nextReadings x y (sourceIn t) (delayIn t) q) next-timers entered-in
-          ∙ nextReadings-ext (running s (z .modes)) (z .entered) (sourceIn t) (source s) (delayIn t) (delay s) q p
-          (λ u h. let r = running-e s (z .modes) u h in (source-in u (r .small) (r .timer), delay-in u (r .small) (r .timer)))
-          (st .readings)
+          ap₂ (λ (x y : ℕ). nextReadings x y (sourceIn w) (delayIn w) (q .readings)) next-timers entered-same
+          ∙ ap (nextReadings (running s (z .modes)) (z .entered) (sourceIn w) (delayIn w)) (st .readings)
+          ∙ next-readings-ext (running s (z .modes)) (z .entered) (sourceIn w) (source s) (delayIn w) (delay s) (p .readings)
+          (λ u h. let r = running-e s (z .modes) u h in (source-same s w f sd u (r .small) (r .timer), delay-same s w f sd u (r .small) (r .timer)))
 
-      pub stands-next : Stands q′ (stateAfter s p z)
-      stands-next = record { low = next-low; same = (unfold stateAfter in next-same); readings = next-readings }
+      pub stands-next : Stands (tableStep w q i .state) (sheetStep s p i .state)
+      unfolding tableStep sheetStep stateAfterCell stateAfter nextState
+      stands-next = record { low = next-low; same = next-same; readings = next-readings }
 
       -- no timer of the next block is without a reading
-      pub not-stale : tickFrom s p i .refusal ≡ 0 → Right s p → isStale t q′ ≡ false
-      unfolding isStale Right stateAfter
-      not-stale good right = is-false (someIn 64 (timersIn t (q′ .at)) (λ u. eqb (reading q′ u) 0)) none
+      not-stale : Right s p → isStale w (stateAfterCell w q c) ≡ false
+      unfolding isStale Right stateAfterCell stateAfter nextState
+      not-stale right = is-false (someIn 64 (timersIn w next) (λ u. eqb (reading after u) 0)) none
         where
-          same : (u : ℕ) → reading q′ u ≡ reading (stateAfter s p z) u
-          same u = unfold reading in (ap (λ (x : List ℕ). getD x u 0) next-readings)
+          after : List ℕ
+          after = nextReadings (timersIn w next) (cellWord w (q .at) c 1) (sourceIn w) (delayIn w) (q .readings)
 
-          none : T (someIn 64 (timersIn t (q′ .at)) (λ u. eqb (reading q′ u) 0)) → ⊥
+          none : T (someIn 64 (timersIn w next) (λ u. eqb (reading after u) 0)) → ⊥
           none h =
-              let r = someIn-e 64 (timersIn t (q′ .at)) (λ u. eqb (reading q′ u) 0) h in
+              let r = someIn-e 64 (timersIn w next) (λ u. eqb (reading after u) 0) h in
               let on : T (has (running s (z .modes)) (r .0)) = subst (λ (x : ℕ). T (has x (r .0))) next-timers (r .2) in
-              omega (arith, right-next s sd p i right good (r .0) on .0, same (r .0), eqb→eq (reading q′ (r .0)) 0 (r .3))
+              omega (arith, right-next s sd p i right tick-good (r .0) on .0, ap (λ (l : List ℕ). reading l (r .0)) next-readings, eqb→eq (reading after (r .0)) 0 (r .3))
 
--- ---- a whole run
+      -- neither tick is refused, and their words are the same
+      pub table-good : Right s p → tickRefusal (kIn w) (tableStep w) q i ≡ 0
+      unfolding tableStep refusedIf
+      table-good right =
+          tick-known (kIn w) (tableStep w) q i (subst (λ (k : ℕ). inputForeign k i ≡ false) (sym (k-same s w f)) known)
+          ∙ ap (λ (b : Bool). cond b 15 0) (not-stale right)
 
-module _ (s : List ℕ) (sd : Sound s) (listed : List ℕ)
-    (closed : Closed s listed) where
-  -- the table's ticks R on a list, from q, and the sheet's ticks S on its done sets ds, from p
-  pub record Agree (q p : State) (is ds : List ℕ) (R S : Ticks) : Type 0 where
+      pub sheet-good : tickRefusal (kOf s) (sheetStep s) p i ≡ 0
+      unfolding sheetStep
+      sheet-good = tick-known (kOf s) (sheetStep s) p i known ∙ tick-good
+
+      pub step-words : tableStep w q i .words ≡ sheetStep s p i .words
+      unfolding tableStep sheetStep
+      step-words = words-same
+
+      pub right-step : Right s p → Right s (sheetStep s p i .state)
+      unfolding sheetStep
+      right-step right = right-next s sd p i right tick-good
+
+  -- ---- the ticks of a list
+
+  -- the table's ticks R on a list, from q, and the sheet's ticks S on its done sets ds
+  pub record Agree (q : State) (is ds : List ℕ) (R S : Ticks) : Type 0 where
     pub unrefused : S .refusal ≡ 0
     pub done : R .done ≡ length ds
     pub words : R .words ≡ S .words
     pub refusal : R .refusal ≡ cond (ltb (length ds) (length is)) 13 0
-    pub stands : Stands s sd listed (R .state) (S .state)
+    pub stands : Stands (R .state) (S .state)
     pub right : Right s (S .state)
     pub still : length ds ≡ 0 → R .state ≡ q
 
-  -- one tick before two runs that agree
-  agree-then : (q q′ p p′ : State) (i : ℕ) (is ds five : List ℕ) (n : ℕ) (R S : Ticks) → Agree q′ p′ is ds R S
-      → Agree q p (i ∷ is) (i ∷ ds) (tickThen five 0 R) (tickThen five n S)
+  -- one tick before two lists of ticks that agree
+  agree-then : (q q′ : State) (i : ℕ) (is ds : List ℕ) (a b : Step) (R S : Ticks) → a .words ≡ b .words → Agree q′ is ds R S
+      → Agree q (i ∷ is) (i ∷ ds) (tickThen a R) (tickThen b S)
   unfolding tickThen
-  agree-then q q′ p p′ i is ds five n R S h =
+  agree-then q q′ i is ds a b R S e h =
       record {
         unrefused = h .unrefused;
         done = ap suc (h .done);
-        words = ap (λ (l : List ℕ). five ++ l) (h .words);
-        refusal = h .refusal ∙ ap (λ (b : Bool). cond b 13 0) (sym (leb·suc-suc (suc (length ds)) (length is)));
+        words = ap₂ (λ (x y : List ℕ). x ++ y) e (h .words);
+        refusal = h .refusal ∙ ap (λ (c : Bool). cond c 13 0) (sym (leb·suc-suc (suc (length ds)) (length is)));
         stands = h .stands;
         right = h .right;
-        still = λ e. absurd (suc-ne-zero (length ds) e);
+        still = λ z. absurd (suc-ne-zero (length ds) z);
       }
 
-  pub ticks-agree : (is : List ℕ) (q p : State) → Stands s sd listed q p → Right s p
-      → Agree q p is (legal (kOf s) is) (tableTicks (tbl s listed) is q) (sheetTicks s (legal (kOf s) is) p)
-  unfolding legal tableTicks sheetTicks stops
-  ticks-agree [] q p st r = record { unrefused = refl; done = refl; words = refl; refusal = refl; stands = st; right = r; still = λ e. refl }
-  ticks-agree (i ∷ is) q p st r =
-      subst (λ (k : ℕ). Agree q p (i ∷ is) (legal (kOf s) (i ∷ is)) (cond (inputForeign k i) (stops 13 q) R) (sheetTicks s (legal (kOf s) (i ∷ is)) p)) (sym (k-in s listed))
-      (go (inputForeign (kOf s) i) refl (ticks-agree is q′ p′))
+  pub ticks-agree : (is : List ℕ) (q p : State) → Stands q p → Right s p
+      → Agree q is (legal (kOf s) is) (tableTicks w is q) (sheetTicks s (legal (kOf s) is) p)
+  unfolding legal
+  ticks-agree [] q p st r =
+      unfold ticks stops in record { unrefused = refl; done = refl; words = refl; refusal = refl; stands = st; right = r; still = λ e. refl }
+  ticks-agree (i ∷ is) q p st r = go (inputForeign (kOf s) i) refl (ticks-agree is (tableStep w q i .state) (sheetStep s p i .state))
     where
-      t : List ℕ
-      t = tbl s listed
-
-      c : ℕ
-      c = cellOf t q i
-
       q′ : State
-      q′ = stateAfterCell t q c
-
-      o : Tick
-      o = tickFrom s p i
+      q′ = tableStep w q i .state
 
       p′ : State
-      p′ = stateAfter s p (o .sets)
+      p′ = sheetStep s p i .state
 
       ds : List ℕ
       ds = legal (kOf s) is
 
-      R : Ticks
-      R = cond (isStale t q′) (stops 15 q) (tickThen (rowFrom 1 5 (cellWord t (q .at) c)) 0 (tableTicks t is q′))
-
-      on : Ticks
-      on = tickThen (fiveWords (o .sets)) (o .rounds) (sheetTicks s ds p′)
-
-      go : (b : Bool) → inputForeign (kOf s) i ≡ b → (Stands s sd listed q′ p′ → Right s p′ → Agree q′ p′ is ds (tableTicks t is q′) (sheetTicks s ds p′))
-          → Agree q p (i ∷ is) (cond b [] (i ∷ ds)) (cond b (stops 13 q) R) (sheetTicks s (cond b [] (i ∷ ds)) p)
+      go : (b : Bool) → inputForeign (kOf s) i ≡ b
+          → (Stands q′ p′ → Right s p′ → Agree q′ is ds (tableTicks w is q′) (sheetTicks s ds p′))
+          → Agree q (i ∷ is) (cond b [] (i ∷ ds)) (tableTicks w (i ∷ is) q) (sheetTicks s (cond b [] (i ∷ ds)) p)
       go true e ih =
+          subst (λ (R : Ticks). Agree q (i ∷ is) [] R (sheetTicks s [] p))
+          (sym (ticks-foreign (kIn w) (tableStep w) i is q (subst (λ (k : ℕ). inputForeign k i ≡ true) (sym (k-same s w f)) e)))
+          (unfold ticks stops in
           record {
             unrefused = refl;
             done = refl;
@@ -244,33 +211,9 @@ module _ (s : List ℕ) (sd : Sound s) (listed : List ℕ)
             stands = st;
             right = r;
             still = λ k. refl;
-          }
+          })
       go false e ih =
-          subst (λ (X : Ticks). Agree q p (i ∷ is) (i ∷ ds) X (sheetTicks s (i ∷ ds) p)) (sym is-R)
-          (subst (λ (X : Ticks). Agree q p (i ∷ is) (i ∷ ds) (tickThen (fiveWords (o .sets)) 0 (tableTicks t is q′)) X) (sym is-S)
-          (agree-then q q′ p p′ i is ds (fiveWords (o .sets)) (o .rounds) (tableTicks t is q′) (sheetTicks s ds p′)
-          (ih (stands-next s sd listed q p st i li known) (right-next s sd p i r good))))
-        where
-          li : i < 2 ^ kOf s
-          li = unfold inputForeign in (leb-false (2 ^ kOf s) i e)
-
-          cl : (cellTick s (maskOf s listed (q .at)) c .refusal ≡ 0) × T (isIn (cellTick s (maskOf s listed (q .at)) c .sets .modes) listed)
-          cl = closed (q .at) (st .low) c (cell-lt s sd listed q p st i li)
-
-          same : cellTick s (maskOf s listed (q .at)) c ≡ o
-          same = cell-tick s sd listed q p st i li
-
-          good : o .refusal ≡ 0
-          good = subst (λ (x : Tick). x .refusal ≡ 0) same (cl .0)
-
-          known : T (isIn (o .sets .modes) listed)
-          known = subst (λ (x : Tick). T (isIn (x .sets .modes) listed)) same (cl .1)
-
-          is-R : R ≡ tickThen (fiveWords (o .sets)) 0 (tableTicks t is q′)
-          is-R =
-              ap (λ (b : Bool). cond b (stops 15 q) (tickThen (rowFrom 1 5 (cellWord t (q .at) c)) 0 (tableTicks t is q′))) (not-stale s sd listed q p st i li known good r)
-              ∙ ap (λ (l : List ℕ). tickThen l 0 (tableTicks t is q′)) (words-in s sd listed q p st i li known)
-
-          is-S : sheetTicks s (i ∷ ds) p ≡ on
-          is-S =
-              ap₂ (λ (a b : Bool). cond a (stops 13 p) (cond b on (stops (o .refusal) p))) e (eq-eqb (o .refusal) 0 good)
+          subst (λ (R : Ticks). Agree q (i ∷ is) (i ∷ ds) R (sheetTicks s (i ∷ ds) p)) (sym (ticks-go (kIn w) (tableStep w) i is q (table-good q p st i e r)))
+          (subst (λ (S : Ticks). Agree q (i ∷ is) (i ∷ ds) (tickThen (tableStep w q i) (tableTicks w is q′)) S) (sym (ticks-go (kOf s) (sheetStep s) i ds p (sheet-good q p st i e)))
+          (agree-then q q′ i is ds (tableStep w q i) (sheetStep s p i) (tableTicks w is q′) (sheetTicks s ds p′) (step-words q p st i e)
+          (ih (stands-next q p st i e) (right-step q p st i e r))))

@@ -1,21 +1,34 @@
 -- The whole-list theorem, and all that is promised besides. Assumes nothing.
+use Rattle.meaning.specs.Faithful.{FaithfulServes, CompiledFaithful}
 use Rattle.meaning.specs.WholeList.{WholeList}
 use Rattle.meaning.specs.Promises.{Promised}
 use Rattle.meaning.proofs.Consistency.{keeps-consistent, keeps}
 use Rattle.meaning.proofs.TickLaws.{tick-rounds, rounds-enough}
-use Rattle.meaning.proofs.RunLaws.{run-rounds}
+use Rattle.meaning.proofs.SheetTicksLaws.{run-rounds}
 use Rattle.meaning.proofs.Fuel.{containment-enough, meeting-enough, completion-enough, child-enough}
 use Rattle.meaning.proofs.WalkFuel.{walk-enough}
 use Rattle.meaning.proofs.TickInWordsLaws.{in-words}
 use Rattle.meaning.proofs.AnyOrder.{any-order}
-use Rattle.meaning.proofs.ServedLaws.{whole-list-from}
+use Rattle.meaning.proofs.ServedLaws.{faithful-serves-from}
+use Rattle.meaning.proofs.CompiledLaws.{compiled-faithful-from, compiled-passes}
 
--- A table that compile made runs, from power-on and over any list of calls, as its sheet does. The statement is about the definitions
+-- a faithful table serves any list of calls from power-on as its sheet does
+pub faithful-serves : FaithfulServes
+faithful-serves = faithful-serves-from keeps-consistent
+
+-- a table that compile made is faithful to its sheet
+pub compiled-faithful : CompiledFaithful
+compiled-faithful = compiled-faithful-from keeps-consistent
+
+-- So a table that compile made runs, from power-on and over any list of calls, as its sheet does. The statement is about the definitions
 -- `compile` and `tableRun`. `compiler::compile` and `recorder::table_run::run` are proved equal to these two for all words, results
 -- and lent words alike, so it holds of every program that compiles a sheet, keeps as many words of the table slice as the length
 -- returned, and runs them from the fresh state on, passing the state that each call returns to the next.
 pub whole-list : WholeList
-whole-list = whole-list-from keeps-consistent
+unfolding WholeList FaithfulServes CompiledFaithful
+whole-list s work table h cs =
+    let f = compiled-faithful s work table h in
+    faithful-serves s _ (compiled-passes s work table h) (f .0) (f .1) cs
 
 pub promised : Promised
 promised =
@@ -31,4 +44,6 @@ promised =
       childEnough = child-enough;
       inWords = in-words;
       anyOrder = any-order;
+      compiledFaithful = compiled-faithful;
+      faithfulServes = faithful-serves;
     }

@@ -16,14 +16,14 @@ use Rattle.meaning.specs.Sheet.{tOf, source}
 use Rattle.meaning.specs.Hierarchy.{complete}
 use Rattle.meaning.specs.Reaction.{TickSets, isDelay, delay, isTimer, running, alternative, isDue, trigger, triggered, eligible, ambiguous, restless, exiting, entering, afterRound}
 use Rattle.meaning.specs.Tick.{Tick, begin, chosen, roundsFrom, tick}
-use Rattle.meaning.specs.Run.{State, reading, dueTimers, nextReadings}
+use Rattle.meaning.specs.Run.{State, reading, dueTimers, nextReadings, nextState}
 use Rattle.meaning.specs.SheetRun.{tickFrom, stateAfter}
 use Rattle.meaning.specs.TickInWords.{Timed, timed, triggerAt, chosenAt, restarted, timedFrom, startReadings, timedTick, timedState}
 use Rattle.meaning.specs.Promises.{InWords}
 use Rattle.meaning.proofs.ListLaws.{rowFrom-at, rowFrom-ext}
 use Rattle.meaning.proofs.SheetLaws.{Sound, sound, t-le}
 use Rattle.meaning.proofs.TickLaws.{modes-after, entered-after, Runs, running-e, running-i}
-use Rattle.meaning.proofs.RunLaws.{due-at}
+use Rattle.meaning.proofs.ReadingLaws.{due-at}
 
 module _ (s : List ℕ) (sd : Sound s) (d i : ℕ) (low : ℕ → ℕ) where
   -- a running timer reads its delay if its source was entered in this tick, else low; and it is in d where low is 0
@@ -155,10 +155,10 @@ module _ (s : List ℕ) (sd : Sound s) (d i : ℕ) (low : ℕ → ℕ) where
 
 module _ (s : List ℕ) (sd : Sound s) (q : State) (i : ℕ) where
   abbrev low : ℕ → ℕ
-  low t = reading q t - 1
+  low t = reading (q .readings) t - 1
 
   abbrev d : ℕ
-  d = dueTimers (running s (q .at)) q
+  d = dueTimers (running s (q .at)) (q .readings)
 
   -- the readings at the start of the tick
   inv-start : Inv s sd d i low (begin s (q .at)) (startReadings s q)
@@ -174,7 +174,7 @@ module _ (s : List ℕ) (sd : Sound s) (q : State) (i : ℕ) where
           (record { modes = q .at; entered = 0; exited = 0; active = q .at; taken = 0 })
 
       row : Bool → ℕ → ℕ
-      row b u = cond (has (running s (start b .modes)) u) (cond b (delay s u) (reading q u - 1)) 0
+      row b u = cond (has (running s (start b .modes)) u) (cond b (delay s u) (reading (q .readings) u - 1)) 0
 
       first : (b : Bool) → Runs s (start b .modes) t → getD (rowFrom 0 64 (row b)) t 0 ≡ cond b (delay s t) (low t)
       first b r =
@@ -190,7 +190,7 @@ module _ (s : List ℕ) (sd : Sound s) (q : State) (i : ℕ) where
       go false e r =
           record {
             value = first false r ∙ sym (ap (λ (v : Bool). cond v (delay s t) (low t)) (has-none (source s t)));
-            is-due = λ f. due-at (running s (q .at)) q t (lt-of-lt-of-le (r .small) (t-le s sd))
+            is-due = λ f. due-at (running s (q .at)) (q .readings) t (lt-of-lt-of-le (r .small) (t-le s sd))
                 ∙ ap (λ (v : Bool). v && eqb (low t) 0) (is-true (has (running s (q .at)) t) (running-i s (q .at) t r));
           }
 
@@ -199,7 +199,7 @@ module _ (s : List ℕ) (sd : Sound s) (q : State) (i : ℕ) where
   both = together s sd d i low (suc (tOf s)) (begin s (q .at)) (startReadings s q) 0 inv-start
 
   state-same : timedState s q i ≡ stateAfter s q (tickFrom s q i .sets)
-  unfolding timedState stateAfter nextReadings Inv
+  unfolding timedState stateAfter nextState nextReadings Inv
   state-same =
       ap₂ (λ (m : ℕ) (l : List ℕ). record { at = m; readings = l }) (ap (λ (o : Tick). o .sets .modes) (both .0))
       (rowFrom-ext (λ t. cond (has (running s (z .modes)) t) (getD (timedTick s q i .readings) t 0) 0) (row z) 0 64
@@ -211,7 +211,7 @@ module _ (s : List ℕ) (sd : Sound s) (q : State) (i : ℕ) where
       z = timedTick s q i .tick .sets
 
       row : TickSets → ℕ → ℕ
-      row x t = cond (has (running s (x .modes)) t) (cond (has (x .entered) (source s t)) (delay s t) (reading q t - 1)) 0
+      row x t = cond (has (running s (x .modes)) t) (cond (has (x .entered) (source s t)) (delay s t) (reading (q .readings) t - 1)) 0
 
 pub in-words : InWords
 unfolding InWords

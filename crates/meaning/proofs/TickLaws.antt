@@ -262,12 +262,12 @@ module _ (s : List ℕ) where
   entered-after z es m = has-union (z .entered) (entering s es) m
 
 module _ (s : List ℕ) (d i x : ℕ) where
-  Kept : TickSets → ℕ → Type 0
-  Kept z r = (m : ℕ) → T (has (z .modes) m) → T (has (begin s x .modes) m) ⊎ T (has (z .entered) m)
+  StayedOrEntered : TickSets → ℕ → Type 0
+  StayedOrEntered z r = (m : ℕ) → T (has (z .modes) m) → T (has (begin s x .modes) m) ⊎ T (has (z .entered) m)
 
-  kept-step : (z : TickSets) (r : ℕ) → Kept z r → Taken s d i z → Kept (afterRound s z (chosen s d i z)) (suc r)
-  unfolding Kept
-  kept-step z r p taken m h =
+  stayed-or-entered-step : (z : TickSets) (r : ℕ) → StayedOrEntered z r → Taken s d i z → StayedOrEntered (afterRound s z (chosen s d i z)) (suc r)
+  unfolding StayedOrEntered
+  stayed-or-entered-step z r p taken m h =
       go (or-e (has (z .modes) m && not (has (exiting s z es) m)) (has (entering s es) m) (subst T (modes-after s z es m) h))
     where
       es : ℕ
@@ -294,11 +294,11 @@ module _ (s : List ℕ) (d i x : ℕ) where
       subst T (sym (entered-after s z (chosen s d i z) m)) (or-l (has (z .entered) m) (has (entering s (chosen s d i z)) m) (p m h))
 
   -- in the set at the end: in x at the start, or entered
-  pub kept : (m : ℕ) → T (has (tick s x d i .sets .modes) m) → T (has x m) ⊎ T (has (tick s x d i .sets .entered) m)
-  unfolding tick Kept Grown begin
-  kept m h =
+  pub stayed-or-entered : (m : ℕ) → T (has (tick s x d i .sets .modes) m) → T (has x m) ⊎ T (has (tick s x d i .sets .entered) m)
+  unfolding tick StayedOrEntered Grown begin
+  stayed-or-entered m h =
       go (eqb x 0) refl
-      (rounds-ind s d i Kept kept-step (suc (tOf s)) (begin s x) 0 (λ k g. inl g) m h)
+      (rounds-ind s d i StayedOrEntered stayed-or-entered-step (suc (tOf s)) (begin s x) 0 (λ k g. inl g) m h)
       (rounds-ind s d i Grown grown-step (suc (tOf s)) (begin s x) 0 (λ k g. g) m)
     where
       y : ℕ

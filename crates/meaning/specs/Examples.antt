@@ -1,5 +1,6 @@
 -- The examples marked (P) in document 01 and the bench example's five ticks, computed, as one joint check. Assumes nothing.
 use mathlib.Core.Path.{_≡_, refl}
+use mathlib.Core.Bool.{true, false}
 use mathlib.Core.List.{List, [], _∷_, _++_, flatten}
 use Prim.Native.Nat.{ℕ}
 use lib.ListN.{replicate}
@@ -15,10 +16,11 @@ use Rattle.meaning.specs.SheetRun.{stateOk, tickFrom, stateAfter, sheetS
 use Rattle.meaning.specs.Table.{wordIn, kIn, tIn, bIn, sourceIn, delayIn, offsetIn, lengthIn, endBeforeIn, maskIn, timersIn, cellsIn, cellWord, timerOk, blockOk, tableOk}
 use Rattle.meaning.specs.TableRun.{dueNumber, tableStateOk, cellOf, stateAfterCell, isStale, tableStep, tableTicks, tableRun}
 use Rattle.meaning.specs.Compile.{dueSet, pairsFrom, workListFull, timersMany, cellCount, cellTick, listing, cellsFrom, walkFrom, walk, timerWord, cellWords, blockWords, tableWords, compileRefusal, compile}
+use Rattle.meaning.specs.Faithful.{cellFaithful, blockFaithful, faithful}
 
 -- whoever unfolds this unfolds every definition of the meaning
 opened : Unit {0}
-unfolding digit has minus setOf those members size some every someIn everyIn flatten rowFrom isIn place overwritten allOf firstOf refusedIf firstRefusal word nOf kOf tOf kind parent first offset recordLength endBefore source target termCount termKind termValue isChild containsIn contains strictlyContains meetingFrom meetingOf meeting headOk modeOk modesOk pairOk pairsOk endOk endsOk termOk termsOk sharesEnds distinctOk sheetRefusal children memberOk consistent brings completedIn complete childIn childHolding exits enters isDelay delay isTimer running holds alternativeFrom alternative isDue trigger triggered conflict givesWay eligible ambiguous restless exiting entering afterRound fiveWords begin chosen roundsFrom tick reading powerOn isFresh readingsOk dueTimers nextReadings nextState stops tickThen outputShort inputForeign ran tickRefusal ticks run stateOk tickFrom stateAfter sheetStep sheetRun wordIn kIn tIn bIn sourceIn delayIn offsetIn lengthIn endBeforeIn maskIn timersIn cellsIn cellWord timerOk blockOk tableOk dueNumber tableStateOk cellOf stateAfterCell isStale tableStep tableRun dueSet pairsFrom workListFull timersMany cellCount cellTick listing cellsFrom walkFrom walk timerWord cellWords blockWords tableWords compileRefusal compile
+unfolding digit has minus setOf those members size some every someIn everyIn flatten rowFrom isIn place overwritten allOf firstOf refusedIf firstRefusal word nOf kOf tOf kind parent first offset recordLength endBefore source target termCount termKind termValue isChild containsIn contains strictlyContains meetingFrom meetingOf meeting headOk modeOk modesOk pairOk pairsOk endOk endsOk termOk termsOk sharesEnds distinctOk sheetRefusal children memberOk consistent brings completedIn complete childIn childHolding exits enters isDelay delay isTimer running holds alternativeFrom alternative isDue trigger triggered conflict givesWay eligible ambiguous restless exiting entering afterRound fiveWords begin chosen roundsFrom tick reading powerOn isFresh readingsOk dueTimers nextReadings nextState stops tickThen outputShort inputForeign ran tickRefusal ticks run stateOk tickFrom stateAfter sheetStep sheetRun wordIn kIn tIn bIn sourceIn delayIn offsetIn lengthIn endBeforeIn maskIn timersIn cellsIn cellWord timerOk blockOk tableOk dueNumber tableStateOk cellOf stateAfterCell isStale tableStep tableRun dueSet pairsFrom workListFull timersMany cellCount cellTick listing cellsFrom walkFrom walk timerWord cellWords blockWords tableWords compileRefusal compile cellFaithful blockFaithful faithful
 opened = tt
 
 -- the whole example's sheet and table
@@ -32,6 +34,14 @@ table =
     ∷ 0 ∷ 0 ∷ 0 ∷ 1 ∷ 3 ∷ 0 ∷ 3 ∷ 0 ∷ 0 ∷ 2 ∷ 7 ∷ 2 ∷ 7 ∷ 1 ∷ 0
     ∷ 3 ∷ 0 ∷ 0 ∷ 1 ∷ 0 ∷ 0 ∷ 3 ∷ 0 ∷ 0 ∷ 2 ∷ 4 ∷ 2 ∷ 7 ∷ 1 ∷ 0
     ∷ 5 ∷ 2 ∷ 0 ∷ 2 ∷ 0 ∷ 0 ∷ 5 ∷ 0 ∷ 0 ∷ 2 ∷ 0 ∷ 0 ∷ 5 ∷ 0 ∷ 0 ∷ 1 ∷ 2 ∷ 4 ∷ 7 ∷ 2 ∷ 0 ∷ 2 ∷ 6 ∷ 6 ∷ 7 ∷ 3 ∷ 0 ∷ []
+
+-- the same table with blocks 1 and 2 in the other order
+abbrev reordered : List ℕ
+reordered =
+    1 ∷ 1 ∷ 2 ∷ 3 ∷ 0 ∷ 131074 ∷ 12 ∷ 15 ∷ 27 ∷ 27 ∷ 54 ∷ 15
+    ∷ 0 ∷ 0 ∷ 0 ∷ 2 ∷ 3 ∷ 0 ∷ 3 ∷ 0 ∷ 0 ∷ 1 ∷ 7 ∷ 2 ∷ 7 ∷ 1 ∷ 0
+    ∷ 5 ∷ 2 ∷ 0 ∷ 1 ∷ 0 ∷ 0 ∷ 5 ∷ 0 ∷ 0 ∷ 1 ∷ 0 ∷ 0 ∷ 5 ∷ 0 ∷ 0 ∷ 2 ∷ 2 ∷ 4 ∷ 7 ∷ 2 ∷ 0 ∷ 1 ∷ 6 ∷ 6 ∷ 7 ∷ 3 ∷ 0
+    ∷ 3 ∷ 0 ∷ 0 ∷ 2 ∷ 0 ∷ 0 ∷ 3 ∷ 0 ∷ 0 ∷ 1 ∷ 4 ∷ 2 ∷ 7 ∷ 1 ∷ 0 ∷ []
 
 -- the bench program's inputs and the words of its five ticks
 abbrev inputs : List ℕ
@@ -112,6 +122,11 @@ pub record Examples : Type 0 where
   -- "input 1 at tick 3 gives 6 6 7 3 0"
   pub input-at-3 : tableRun table powerOn (0 ∷ 1 ∷ 0 ∷ 1 ∷ []) (lent 20) .out
       ≡ 3 ∷ 0 ∷ 3 ∷ 0 ∷ 0 ∷ 4 ∷ 2 ∷ 7 ∷ 1 ∷ 0 ∷ 0 ∷ 0 ∷ 5 ∷ 0 ∷ 0 ∷ 6 ∷ 6 ∷ 7 ∷ 3 ∷ 0 ∷ []
+  -- Ask 4: the table is faithful to its sheet, "Blocks may be in another order than ours", and not to another sheet
+  pub own-faithful : faithful sheet table ≡ true
+  pub reordered-sound : tableOk reordered ≡ true
+  pub reordered-faithful : faithful sheet reordered ≡ true
+  pub other-sheet : faithful to-and-fro table ≡ false
   -- "1→2 and 2→1 both on event 0: 9; 1→2 and 1→3 both on event 0: 8, on present and absent: accepted"
   pub both-ways : refusal to-and-fro ≡ 9
   pub both-present : refusal (fork 1 1) ≡ 8
@@ -142,6 +157,10 @@ examples =
       sheet-run = refl;
       table-run = refl;
       input-at-3 = refl;
+      own-faithful = refl;
+      reordered-sound = refl;
+      reordered-faithful = refl;
+      other-sheet = refl;
       both-ways = refl;
       both-present = refl;
       present-absent = refl;

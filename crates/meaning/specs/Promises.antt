@@ -19,6 +19,7 @@ use Rattle.meaning.specs.SheetRun.{tickFrom, stateAfter, sheetTicks}
 use Rattle.meaning.specs.TickInWords.{timedTick, timedState}
 use Rattle.meaning.specs.OneByOne.{Reaction, takeInOrder, takeTogether}
 use Rattle.meaning.specs.Compile.{walkFrom, walk}
+use Rattle.meaning.specs.Faithful.{FaithfulServes, CompiledFaithful}
 
 -- a tick from power-on or from a consistent set leaves a consistent set
 unfoldable pub KeepsConsistent : Type 0
@@ -83,3 +84,5 @@ pub record Promised : Type 0 where
   pub childEnough : ChildEnough
   pub inWords : InWords
   pub anyOrder : AnyOrder
+  pub compiledFaithful : CompiledFaithful
+  pub faithfulServes : FaithfulServes

@@ -1,0 +1,90 @@
+-- What compile leaves, by its one refusal: nothing in the table, or a table that is faithful to the sheet. Assumes nothing.
+use mathlib.Core.Path.{_≡_, refl, sym, ap, _∙_, subst}
+use mathlib.Core.Logic.{_⊎_}
+use mathlib.Core.Bool.{Bool, true, false, cond}
+use mathlib.Core.List.{List, [], _∷_}
+use Prim.Native.Nat.{ℕ, _≤_, zero-le}
+use native.Mathlib.Nat.{le-trans, min-le-right}
+use native.Mathlib.Omega.{arith}
+use lib.Dec.{T, eqb, ltb}
+use lib.ListN.{length, take, drop}
+use lib.Seq.{take-append-seam}
+use borrow.Author.Tests.{eqb-true, eq-eqb, ltb-false}
+use Rattle.meaning.specs.Lists.{overwritten, refusedIf, firstRefusal}
+use Rattle.meaning.specs.Check.{sheetRefusal}
+use Rattle.meaning.specs.Hierarchy.{consistent}
+use Rattle.meaning.specs.Tick.{tick}
+use Rattle.meaning.specs.Table.{tableOk}
+use Rattle.meaning.specs.Compile.{Walk, walk, tableWords, compileRefusal, compile}
+use Rattle.meaning.specs.Faithful.{faithful, CompiledFaithful}
+use Rattle.meaning.proofs.RefusalLaws.{none-met, first-alone, unmet}
+use Rattle.meaning.proofs.SheetLaws.{Sound, sound}
+use Rattle.meaning.proofs.WalkFuel.{walk-few}
+use Rattle.meaning.proofs.WalkLaws.{walk-closed}
+use Rattle.meaning.proofs.TableFaithful.{table-faithful}
+use Rattle.meaning.proofs.TableSound.{table-ok}
+
+-- where nothing is refused, neither the sheet nor the walk is, and the table slice is long enough
+pub record Accepted (s : List ℕ) (o : Walk) (m : ℕ) : Type 0 where
+  pub passes : sheetRefusal s ≡ 0
+  pub walked : o .refusal ≡ 0
+  pub room : length (tableWords s (o .listed)) ≤ m
+
+pub accepted : (s : List ℕ) (o : Walk) (m : ℕ) → compileRefusal s o m ≡ 0 → Accepted s o m
+unfolding compileRefusal
+accepted s o m h =
+    let short = ltb m (length (tableWords s (o .listed))) in
+    let a = none-met (sheetRefusal s) (o .refusal ∷ refusedIf short 10 ∷ []) h in
+    let b = none-met (o .refusal) (refusedIf short 10 ∷ []) (a .1) in
+    record {
+      passes = a .0;
+      walked = b .0;
+      room = ltb-false m (length (tableWords s (o .listed))) (unmet short 10 (λ z. omega arith) (sym (first-alone (refusedIf short 10)) ∙ b .1));
+    }
+
+module _ (s work table : List ℕ) where
+  -- the table's length is at most that of the lent slice
+  pub compile-length : compile s work table .tableLength ≤ length table
+  unfolding compile
+  compile-length = go (eqb (compileRefusal s o (length table)) 0) refl
+    where
+      o : Walk
+      o = walk s (length work)
+
+      listed : List ℕ
+      listed = cond (eqb (sheetRefusal s) 0) (o .listed) []
+
+      go : (b : Bool) → eqb (compileRefusal s o (length table)) 0 ≡ b → length (cond b (tableWords s listed) []) ≤ length table
+      go false e = zero-le
+      go true e =
+          let a = accepted s o (length table) (eqb-true (compileRefusal s o (length table)) 0 e) in
+          subst (λ (c : Bool). length (tableWords s (cond c (o .listed) [])) ≤ length table) (sym (eq-eqb (sheetRefusal s) 0 (a .passes))) (a .room)
+
+  pub compiled-passes : compile s work table .refusal ≡ 0 → sheetRefusal s ≡ 0
+  unfolding compile
+  compiled-passes h = accepted s (walk s (length work)) (length table) h .passes
+
+  -- the words that it leaves are the table of the walk
+  compiled-words : compile s work table .refusal ≡ 0
+      → take (compile s work table .tableLength) (compile s work table .table) ≡ tableWords s (walk s (length work) .listed)
+  unfolding compile overwritten
+  compiled-words h =
+      let o = walk s (length work) in
+      let words = tableWords s (o .listed) in
+      rw (eq-eqb (compileRefusal s o (length table)) 0 h, eq-eqb (sheetRefusal s) 0 (accepted s o (length table) h .passes)) (take-append-seam words (drop (length words) table))
+
+-- by the one fact that a tick leaves a consistent set
+pub compiled-faithful-from : ((s : List ℕ) → Sound s → (y d i : ℕ) → (y ≡ 0) ⊎ T (consistent s y) → T (consistent s (tick s y d i .sets .modes)))
+    → CompiledFaithful
+unfolding CompiledFaithful
+compiled-faithful-from keeps s work table h =
+    subst (λ (w : List ℕ). T (tableOk w) × T (faithful s w)) (sym (compiled-words s work table h)) (go (accepted s o (length table) (unfold compile in h)))
+  where
+    o : Walk
+    o = walk s (length work)
+
+    go : Accepted s o (length table) → T (tableOk (tableWords s (o .listed))) × T (faithful s (tableWords s (o .listed)))
+    go a =
+        let sd = sound s (a .passes) in
+        let r = walk-closed s (keeps s sd) (length work) (a .walked) in
+        (table-ok s sd (o .listed) (le-trans (walk-few s (length work)) (min-le-right (length work) 4095)) (r .0) (r .1), table-faithful s (o .listed) (r .0) (r .1))
