@@ -1,6 +1,5 @@
 -- What a table run and compile return stays within what was lent. Assumes nothing.
-use mathlib.Core.Path.{_≡_, refl, ap, _∙_}
-use mathlib.Core.Bool.{Bool, true, false, not}
+use mathlib.Core.Bool.{not}
 use mathlib.Core.List.{List}
 use Prim.Native.Nat.{ℕ, _+_, _^_, _≤_, zero-le}
 use native.Mathlib.Omega.{arith}

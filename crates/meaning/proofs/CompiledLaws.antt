@@ -1,5 +1,5 @@
 -- What compile leaves, by its one refusal: nothing in the table, or a table that is faithful to the sheet. Assumes nothing.
-use mathlib.Core.Path.{_≡_, refl, sym, ap, _∙_, subst}
+use mathlib.Core.Path.{_≡_, refl, sym, _∙_, subst}
 use mathlib.Core.Logic.{_⊎_}
 use mathlib.Core.Bool.{Bool, true, false, cond}
 use mathlib.Core.List.{List, [], _∷_}
@@ -10,7 +10,7 @@ use lib.Dec.{T, eqb, ltb}
 use lib.ListN.{length, take, drop}
 use lib.Seq.{take-append-seam}
 use borrow.Author.Tests.{eqb-true, eq-eqb, ltb-false}
-use Rattle.meaning.specs.Lists.{overwritten, refusedIf, firstRefusal}
+use Rattle.meaning.specs.Lists.{overwritten, refusedIf}
 use Rattle.meaning.specs.Check.{sheetRefusal}
 use Rattle.meaning.specs.Hierarchy.{consistent}
 use Rattle.meaning.specs.Tick.{tick}

@@ -1,16 +1,15 @@
 -- What a table that is faithful to a sheet says, fact by fact. Assumes nothing.
-use mathlib.Core.Path.{_≡_, refl, sym, ap, _∙_, subst}
-use mathlib.Core.Bool.{Bool, true, false, not, cond}
-use mathlib.Core.List.{List, [], _∷_}
+use mathlib.Core.Path.{_≡_, refl, sym, ap, _∙_}
+use mathlib.Core.Bool.{Bool, not, cond}
+use mathlib.Core.List.{List}
 use Prim.Native.Nat.{ℕ, suc, _+_, _*_, _/_, _%_, _<_}
-use native.Mathlib.Nat.{zero-add}
 use native.Mathlib.Omega.{arith}
 use lib.Dec.{T, eqb, eqb→eq}
 use lib.Arith.{digits-div, digits-mod}
 use lib.ListN.{getD}
 use lib.Seq.{ext-getD}
 use borrow.Author.Tests.{eq-eqb}
-use Rattle.sets.specs.Sets.{some, every}
+use Rattle.sets.specs.Sets.{some}
 use Rattle.sets.proofs.Tests.{is-true, of-true}
 use Rattle.sets.proofs.Facts.{every-e, every-i}
 use Rattle.meaning.specs.Lists.{rowFrom}

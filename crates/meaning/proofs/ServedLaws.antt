@@ -1,6 +1,6 @@
 -- A faithful table serves any list of calls from power-on as its sheet does. Assumes nothing.
 use mathlib.Core.Path.{_≡_, refl, sym, ap, ap₂, _∙_, subst}
-use mathlib.Core.Logic.{_⊎_, inl, inr}
+use mathlib.Core.Logic.{_⊎_, inl}
 use mathlib.Core.Bool.{Bool, true, false, not, _&&_, _||_, cond}
 use mathlib.Core.List.{List, [], _∷_, _++_, map, flatten, append-nil}
 use Prim.Native.Nat.{ℕ, zero, suc, _*_, _<_}
@@ -11,12 +11,11 @@ use lib.ListN.{length, getD, take}
 use lib.Seq.{take-at}
 use borrow.Author.Tests.{eqb-true, eqb-false, eq-eqb}
 use Rattle.sets.specs.Sets.{has, every}
-use Rattle.sets.proofs.Tests.{is-true, of-true, and-i, or-l, or-r}
+use Rattle.sets.proofs.Tests.{is-true, of-true, and-i, or-l}
 use Rattle.sets.proofs.Facts.{every-i}
 use Rattle.sets.proofs.Membership.{has-none}
 use Rattle.meaning.specs.Lists.{overwritten, refusedIf}
 use Rattle.meaning.specs.Sheet.{kOf}
-use Rattle.meaning.specs.Check.{sheetRefusal}
 use Rattle.meaning.specs.Hierarchy.{consistent}
 use Rattle.meaning.specs.Reaction.{running}
 use Rattle.meaning.specs.Tick.{tick}

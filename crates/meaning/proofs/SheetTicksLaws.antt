@@ -2,7 +2,7 @@
 use mathlib.Core.Path.{_≡_, refl, sym, subst}
 use mathlib.Core.Logic.{_⊎_, inr}
 use mathlib.Core.List.{List, [], _∷_}
-use Prim.Native.Nat.{ℕ, suc, _≤_, _<_}
+use Prim.Native.Nat.{ℕ, suc, _<_}
 use native.Mathlib.Nat.{not-suc-le-zero}
 use lib.Dec.{T}
 use lib.ListN.{length, take, drop, take-append-drop}
@@ -14,7 +14,7 @@ use Rattle.meaning.specs.Run.{State, dueTimers, nextState, Ticks, tickTh
 use Rattle.meaning.specs.SheetRun.{tickFrom, stateAfter, sheetStep, sheetTicks}
 use Rattle.meaning.specs.Promises.{RunRounds}
 use Rattle.meaning.proofs.TickLaws.{rounds-le}
-use Rattle.meaning.proofs.RunLaws.{ticks-go, first-done, front-done, ticks-keep, rounds-few, words-five, done-all}
+use Rattle.meaning.proofs.RunLaws.{ticks-go, first-done, front-done, ticks-keep, rounds-few}
 
 -- the rounds of a run are at most T for each done tick
 pub run-rounds : RunRounds

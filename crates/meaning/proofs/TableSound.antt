@@ -5,7 +5,7 @@ use mathlib.Core.List.{List, _∷_}
 use Prim.Native.Nat.{ℕ, zero, suc, _+_, _*_, _≤_, _<_, zero-le}
 use native.Mathlib.Nat.{le-refl, le-trans, le-of-eq, suc-ne-zero}
 use native.Mathlib.Omega.{arith}
-use lib.Dec.{T, eqb, leb, ltb, eqb→eq, le→leb, lt→ltb, not-T}
+use lib.Dec.{T, eqb, ltb, eqb→eq, le→leb, lt→ltb, not-T}
 use lib.ListN.{length, getD}
 use borrow.Author.Tests.{eq-eqb, ne-eqb}
 use Rattle.sets.specs.Sets.{has, size}
@@ -13,7 +13,7 @@ use Rattle.sets.proofs.Tests.{of-true, and-i, or-l, or-r}
 use Rattle.sets.proofs.Facts.{every-i, everyIn-i}
 use Rattle.sets.proofs.Members.{members-none}
 use Rattle.meaning.specs.Sheet.{tOf, source}
-use Rattle.meaning.specs.Reaction.{isTimer, delay, running}
+use Rattle.meaning.specs.Reaction.{isTimer, delay}
 use Rattle.meaning.specs.Table.{wordIn, kIn, tIn, bIn, sourceIn, delayIn, offsetIn, lengthIn, endBeforeIn, maskIn, timersIn, cellsIn, cellWord, timerOk, blockOk, tableOk}
 use Rattle.meaning.specs.Compile.{blockWords, timerWord, tableWords}
 use Rattle.meaning.specs.Faithful.{faithful}

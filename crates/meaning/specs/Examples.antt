@@ -12,9 +12,9 @@ use Rattle.meaning.specs.Hierarchy.{children, memberOk, consistent, brin
 use Rattle.meaning.specs.Reaction.{isDelay, delay, isTimer, running, holds, alternativeFrom, alternative, isDue, trigger, triggered, conflict, givesWay, eligible, ambiguous, restless, exiting, entering, afterRound}
 use Rattle.meaning.specs.Tick.{fiveWords, begin, chosen, roundsFrom, tick}
 use Rattle.meaning.specs.Run.{reading, powerOn, isFresh, readingsOk, dueTimers, nextReadings, nextState, stops, tickThen, outputShort, inputForeign, ran, tickRefusal, ticks, run}
-use Rattle.meaning.specs.SheetRun.{stateOk, tickFrom, stateAfter, sheetStep, sheetTicks, sheetRun}
+use Rattle.meaning.specs.SheetRun.{stateOk, tickFrom, stateAfter, sheetStep, sheetRun}
 use Rattle.meaning.specs.Table.{wordIn, kIn, tIn, bIn, sourceIn, delayIn, offsetIn, lengthIn, endBeforeIn, maskIn, timersIn, cellsIn, cellWord, timerOk, blockOk, tableOk}
-use Rattle.meaning.specs.TableRun.{dueNumber, tableStateOk, cellOf, stateAfterCell, isStale, tableStep, tableTicks, tableRun}
+use Rattle.meaning.specs.TableRun.{dueNumber, tableStateOk, cellOf, stateAfterCell, isStale, tableStep, tableRun}
 use Rattle.meaning.specs.Compile.{dueSet, pairsFrom, workListFull, timersMany, cellCount, cellTick, listing, cellsFrom, walkFrom, walk, timerWord, cellWords, blockWords, tableWords, compileRefusal, compile}
 use Rattle.meaning.specs.Faithful.{cellFaithful, blockFaithful, faithful}
 
