@@ -20,9 +20,9 @@ use Rattle.meaning.specs.Reaction.{conflict, givesWay}
 use Rattle.meaning.proofs.SheetLaws.{parent-n, sound, n-le, t-le, tree, source-lt}
 use Rattle.meaning.proofs.Containment.{ends, within-le}
 use Rattle.hierarchy.specs.Inside.{Insides}
-use Rattle.reaction.specs.Plan.{sourcesIn, conflictsOf, yieldersOf}
+use Rattle.reaction.specs.Plan.{conflictsPart, yieldersPart, fromPart, planSize, sourcesIn, conflictsOf, yieldersOf}
 use Rattle.reaction.proofs.PlanLaws.{sourcesIn-lt, has-sourcesIn}
-use Rattle.planner.specs.Parts.{Part, fromOf, Meetings}
+use Rattle.planner.specs.Parts.{WordsAt, fromOf, Meetings}
 use Rattle.planner.proofs.PartLaws.{part-out, part-beside, front-in}
 
 -- ---- conflict and giving way
@@ -97,9 +97,9 @@ module _ (s : List ℕ) (h : sheetRefusal s ≡ 0) where
     yielders-word t l ea eb ex ey ew = rw (ey, ex, eb, ea, ew) (yielders-is t l)
 
 -- a part before YIELDERS and the part FROM, while YIELDERS is laid
-module _ (s l : List ℕ) (t : ℕ) {m : List ℕ} (e : m ≡ over l 192 (rowFrom 0 t (yieldersOf s))) (h : 547 ≤ length l) (k : t < 64) where
-  pub yielders-from : Part l 512 32 (fromOf s) → Part m 512 32 (fromOf s)
-  yielders-from p = rw e (part-beside l 192 t (yieldersOf s) (omega arith) 512 32 (fromOf s) (inr (omega arith)) p)
+module _ (s l : List ℕ) (t : ℕ) {m : List ℕ} (e : m ≡ over l yieldersPart (rowFrom 0 t (yieldersOf s))) (h : planSize ≤ length l) (k : t < 64) where
+  pub yielders-from : WordsAt l fromPart 32 (fromOf s) → WordsAt m fromPart 32 (fromOf s)
+  yielders-from p = rw e (part-beside l yieldersPart t (yieldersOf s) (omega arith) fromPart 32 (fromOf s) (inr (omega arith)) p)
 
-  pub yielders-conflicts : Part l 128 (tOf s) (conflictsOf s) → t < tOf s → getD m (128 + t) 0 ≡ conflictsOf s t
-  yielders-conflicts p a = rw e (part-out l 192 t (yieldersOf s) (omega arith) (128 + t) (λ x y. omega arith) ∙ p t a)
+  pub yielders-conflicts : WordsAt l conflictsPart (tOf s) (conflictsOf s) → t < tOf s → getD m (conflictsPart + t) 0 ≡ conflictsOf s t
+  yielders-conflicts p a = rw e (part-out l yieldersPart t (yieldersOf s) (omega arith) (conflictsPart + t) (λ x y. omega arith) ∙ p t a)

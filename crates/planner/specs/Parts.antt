@@ -11,8 +11,8 @@ use Rattle.meaning.specs.Reaction.{isDelay, delay}
 use Rattle.reaction.specs.Plan.{sourcesIn, timers, eventsOnly}
 
 -- the w words of a list from a place on are f 0, f 1, ..
-abbrev pub Part : List ℕ → ℕ → ℕ → (ℕ → ℕ) → Type 0
-Part l at w f = (t : ℕ) → t < w → getD l (at + t) 0 ≡ f t
+abbrev pub WordsAt : List ℕ → ℕ → ℕ → (ℕ → ℕ) → Type 0
+WordsAt l at w f = (t : ℕ) → t < w → getD l (at + t) 0 ≡ f t
 
 module _ (s : List ℕ) where
   -- word m of FROM: the transitions with source m

@@ -8,7 +8,7 @@ ghost use Rattle.meaning.specs.Lists.{rowFrom};
 ghost use Rattle.meaning.specs.Sheet.{tOf};
 ghost use Rattle.meaning.specs.Check.{sheetRefusal};
 ghost use Rattle.meaning.specs.Reaction.{isDelay, delay, isTimer};
-ghost use Rattle.reaction.specs.Plan.{timers, mixed};
+ghost use Rattle.reaction.specs.Plan.{delaysPart, planSize, timers, mixed};
 ghost use Rattle.planner.specs.Parts.{isSure, sure, delayOf};
 use reaction::plan::DELAYS;
 use reaction::plan::Plan;
@@ -105,8 +105,8 @@ fn delay_of(sheet: &[u32], timing: u64, t: usize) -> u64
 
 // DELAYS.
 pub fn put_delays(sheet: &[u32], timing: u64, plan: &mut Plan)
-    requires { ⌜ (sheetRefusal (now sheet) ≡ 0) × (length (now plan) ≡ 547) × (timing ≡ timers (now sheet)) ⌝ }
-    ensures { λ _. ⌜ now (plan .exit) ≡ over (now (plan .entry)) 384 (rowFrom 0 64 (delayOf (now (sheet .entry)))) ⌝ }
+    requires { ⌜ (sheetRefusal (now sheet) ≡ 0) × (length (now plan) ≡ planSize) × (timing ≡ timers (now sheet)) ⌝ }
+    ensures { λ _. ⌜ now (plan .exit) ≡ over (now (plan .entry)) delaysPart (rowFrom 0 64 (delayOf (now (sheet .entry)))) ⌝ }
 {
     let mut t = 0;
     while t < 64 {

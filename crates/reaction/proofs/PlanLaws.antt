@@ -18,7 +18,7 @@ use Rattle.meaning.specs.Check.{sheetRefusal}
 use Rattle.meaning.specs.Hierarchy.{completedIn, complete}
 use Rattle.meaning.specs.Reaction.{isTimer, running}
 use Rattle.meaning.proofs.SheetLaws.{sound, n-le}
-use Rattle.reaction.specs.Plan.{FromPart, Planned, sourcesIn, timers}
+use Rattle.reaction.specs.Plan.{fromPart, startWord, FromPlanned, Planned, sourcesIn, timers}
 
 module _ (s : List ℕ) where
   pub sourcesIn-lt : (x : ℕ) → sourcesIn s x < 2 ^ tOf s
@@ -57,14 +57,14 @@ module _ (s : List ℕ) where
           someIn-i 32 x p m (has-lt 32 x m b k) k (subst T (sym (from m)) (eqb-refl m))
 
   -- the union of the words of the members of x
-  pub from-over : (plan : List ℕ) → FromPart s plan → (x : ℕ) → x < 2 ^ 32 → fold (λ a m. union a (getD plan (512 + m) 0)) 0 (members 32 x) ≡ sourcesIn s x
+  pub from-over : (plan : List ℕ) → FromPlanned s plan → (x : ℕ) → x < 2 ^ 32 → fold (λ a m. union a (getD plan (fromPart + m) 0)) 0 (members 32 x) ≡ sourcesIn s x
   unfolding sourcesIn
   from-over plan h x b =
-      union-over 32 32 (tOf s) x (λ m. getD plan (512 + m) 0) (λ m. sourcesIn s (single m)) b b h (λ m. sourcesIn-lt (single m))
+      union-over 32 32 (tOf s) x (λ m. getD plan (fromPart + m) 0) (λ m. sourcesIn s (single m)) b b h (λ m. sourcesIn-lt (single m))
       ∙ setOf-same (tOf s) (λ t. someIn 32 x (λ m. has (sourcesIn s (single m)) t)) (λ t. has x (source s t)) (λ t l. some-from x t b l)
 
 -- the word of the root completed is a mode set
-pub start-word : (s plan : List ℕ) → sheetRefusal s ≡ 0 → Planned s plan → getD plan 546 0 % 2 ^ 32 ≡ complete s (single 0)
+pub start-word : (s plan : List ℕ) → sheetRefusal s ≡ 0 → Planned s plan → getD plan startWord 0 % 2 ^ 32 ≡ complete s (single 0)
 unfolding complete
 start-word s plan h p =
     rw (p .startAt)

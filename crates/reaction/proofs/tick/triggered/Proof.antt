@@ -5,7 +5,7 @@ use native.Mathlib.Omega.{arith}
 use lib.ListN.{getD}
 use borrow.Author.Needs.{needs}
 use Rattle.sets.specs.Sets.{has, meet}
-use Rattle.reaction.specs.Plan.{hitsOf}
+use Rattle.reaction.specs.Plan.{hitsPart, hitsOf}
 use Rattle.reaction.proofs.TriggerLaws.{input-lt, mixed-asks, triggered-words, triggered-sure}
 use Rattle.reaction.proofs.tick.triggered.Statement.{statement}
 use Rattle.reaction.proofs.tick.triggered.Tie as tie
@@ -25,10 +25,10 @@ element-copy-out-sure c =
     omega (arith, c .wide .ensures, input-lt _ _ (start .pre .0) (start .pre .3))
 
 -- the plan's word for the input set
-hits-at : (c : tie.After-wide) → getD (c .before .before .args .plan .now) (448 + c .wide .result) 0 ≡ hitsOf (c .before .before .args .sheet .now) (c .before .before .args .input)
+hits-at : (c : tie.After-wide) → getD (c .before .before .args .plan .now) (hitsPart + c .wide .result) 0 ≡ hitsOf (c .before .before .args .sheet .now) (c .before .before .args .input)
 hits-at c =
     let start = c .before .before in
-    ap (λ (w : ℕ). getD (start .args .plan .now) (448 + w) 0) (c .wide .ensures) ∙ start .pre .1 .hitsAt (start .args .input) (start .pre .3)
+    ap (λ (w : ℕ). getD (start .args .plan .now) (hitsPart + w) 0) (c .wide .ensures) ∙ start .pre .1 .hitsAt (start .args .input) (start .pre .3)
 
 element-copy-out-mixed : tie.Need-element-copy-out-mixed
 element-copy-out-mixed c = search needs
