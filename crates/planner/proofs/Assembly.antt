@@ -170,9 +170,10 @@ module _ (s : List ℕ) where
   abbrev pub whole : List Piece
   whole = wordPiece startWord (complete s (single 0)) ∷ wordPiece mixedWord (mixed s) ∷ wordPiece timersWord (timers s) ∷ classes
 
-  pub planned-of : {m : List ℕ} → Laid whole m → Planned s m
-  planned-of d =
+  pub planned-of : {m : List ℕ} → sheetRefusal s ≡ 0 → Laid whole m → Planned s m
+  planned-of h d =
       record {
+        passes = h;
         exitsAt = laid-has 10 d tt;
         entersAt = laid-has 9 d tt;
         conflictsAt = laid-has 6 d tt;

@@ -14,7 +14,6 @@ use Rattle.sets.proofs.Membership.{has-meet, has-single, has-setOf, setOf-lt, s
 use Rattle.sets.proofs.Members.{fold}
 use Rattle.sets.proofs.Widths.{union-over}
 use Rattle.meaning.specs.Sheet.{nOf, tOf, source}
-use Rattle.meaning.specs.Check.{sheetRefusal}
 use Rattle.meaning.specs.Hierarchy.{completedIn, complete}
 use Rattle.meaning.specs.Reaction.{isTimer, running}
 use Rattle.meaning.proofs.SheetLaws.{sound, n-le}
@@ -64,9 +63,9 @@ module _ (s : List ℕ) where
       ∙ setOf-same (tOf s) (λ t. someIn 32 x (λ m. has (sourcesIn s (single m)) t)) (λ t. has x (source s t)) (λ t l. some-from x t b l)
 
 -- the word of the root completed is a mode set
-pub start-word : (s plan : List ℕ) → sheetRefusal s ≡ 0 → Planned s plan → getD plan startWord 0 % 2 ^ 32 ≡ complete s (single 0)
+pub start-word : (s plan : List ℕ) → Planned s plan → getD plan startWord 0 % 2 ^ 32 ≡ complete s (single 0)
 unfolding complete
-start-word s plan h p =
+start-word s plan p =
     rw (p .startAt)
     (mod-eq-of-lt
-    (lt-of-lt-of-le (setOf-lt (nOf s) (λ m. completedIn s m (single 0) m)) (pow-le-pow-right {n = 2} (omega arith) (n-le s (sound s h)))))
+    (lt-of-lt-of-le (setOf-lt (nOf s) (λ m. completedIn s m (single 0) m)) (pow-le-pow-right {n = 2} (omega arith) (n-le s (sound s (p .passes))))))

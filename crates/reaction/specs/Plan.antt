@@ -7,6 +7,7 @@ use lib.Dec.{eqb, ltb}
 use lib.ListN.{getD}
 use Rattle.sets.specs.Sets.{has, single, setOf, every}
 use Rattle.meaning.specs.Sheet.{kOf, tOf, source, termCount, termKind}
+use Rattle.meaning.specs.Check.{sheetRefusal}
 use Rattle.meaning.specs.Hierarchy.{complete, exits, enters}
 use Rattle.meaning.specs.Reaction.{TickSets, isDelay, delay, isTimer, alternative, conflict, givesWay}
 
@@ -106,8 +107,9 @@ module _ (s : List ℕ) where
   abbrev pub FromPlanned : List ℕ → Type 0
   FromPlanned plan = (m : ℕ) → m < 32 → getD plan (fromPart + m) 0 ≡ sourcesIn (single m)
 
-  -- an array of words is the plan of the sheet
+  -- the sheet passes 1 to 6, and an array of words is its plan
   pub record Planned (plan : List ℕ) : Type 0 where
+    pub passes : sheetRefusal s ≡ 0
     pub exitsAt : (t : ℕ) → t < tOf s → getD plan (exitsPart + t) 0 ≡ exits s t
     pub entersAt : (t : ℕ) → t < tOf s → getD plan (entersPart + t) 0 ≡ enters s t
     pub conflictsAt : (t : ℕ) → t < tOf s → getD plan (conflictsPart + t) 0 ≡ conflictsOf t

@@ -79,7 +79,7 @@ fn judged(sheet: &[u32], set: u64, f: &[u64; 8]) -> u64
 
 // The triggered transitions.
 fn triggered(sheet: &[u32], plan: &Plan, z: Sets, input: u32) -> u64
-    requires { ⌜ (sheetRefusal (now sheet) ≡ 0) × Planned (now sheet) (now plan) × Derived (now sheet) z × (input < 2 ^ kOf (now sheet)) ⌝ }
+    requires { ⌜ Planned (now sheet) (now plan) × Derived (now sheet) z × (input < 2 ^ kOf (now sheet)) ⌝ }
     ensures { λ r. ⌜ r ≡ triggered (now (sheet .entry)) (z .due) input (setsOf z) ⌝ }
 {
     let sure = z.live & (z.due | plan[HITS + wide(input)]);
@@ -129,7 +129,7 @@ fn with_move(plan: &Plan, m: Moves, t: usize) -> Moves
 
 // What the transitions es do.
 fn moves_of(sheet: &[u32], plan: &Plan, es: u64) -> Moves
-    requires { ⌜ (sheetRefusal (now sheet) ≡ 0) × Planned (now sheet) (now plan) × (es < 2 ^ tOf (now sheet)) ⌝ }
+    requires { ⌜ Planned (now sheet) (now plan) × (es < 2 ^ tOf (now sheet)) ⌝ }
     ensures { λ r. ⌜ MovesOf (now (sheet .entry)) es r ⌝ }
 {
     let mut r = Moves {
@@ -177,7 +177,7 @@ fn ended(refusal: Refusal, sets: Sets, rounds: u32) -> Ticked
 
 // All rounds of a tick: each takes a transition not taken before, so T and one look are enough.
 fn rounds(sheet: &[u32], plan: &Plan, start: Sets, input: u32) -> Ticked
-    requires { ⌜ (sheetRefusal (now sheet) ≡ 0) × Planned (now sheet) (now plan) × Derived (now sheet) start × (input < 2 ^ kOf (now sheet)) ⌝ }
+    requires { ⌜ Planned (now sheet) (now plan) × Derived (now sheet) start × (input < 2 ^ kOf (now sheet)) ⌝ }
     ensures { λ r. ⌜ (tickOf r ≡ roundsFrom (now (sheet .entry)) (suc (tOf (now (sheet .entry)))) (start .due) input (setsOf start) 0) × (r .sets .live ≡ sourcesIn (now (sheet .entry)) (r .sets .modes)) ⌝ }
 {
     let most = transition_count(sheet);
@@ -218,7 +218,7 @@ fn begin(modes: u32, live: u64, due: u64) -> Sets
 
 // The sets before the first round at power-on: the root is completed.
 fn power_on(sheet: &[u32], plan: &Plan) -> Sets
-    requires { ⌜ (sheetRefusal (now sheet) ≡ 0) × Planned (now sheet) (now plan) ⌝ }
+    requires { ⌜ Planned (now sheet) (now plan) ⌝ }
     ensures { λ r. ⌜ (setsOf r ≡ begin (now (sheet .entry)) 0) × Derived (now (sheet .entry)) r × (r .due ≡ 0) ⌝ }
 {
     let start = mode_set(plan, START);
@@ -235,7 +235,7 @@ fn power_on(sheet: &[u32], plan: &Plan) -> Sets
 
 // The tick from a mode set (0: power-on) with the transitions whose source is in it and its due timers.
 pub fn tick(sheet: &[u32], plan: &Plan, modes: u32, live: u64, due: u64, input: u32) -> Ticked
-    requires { ⌜ (sheetRefusal (now sheet) ≡ 0) × Planned (now sheet) (now plan) × Before (now sheet) modes live due × (input < 2 ^ kOf (now sheet)) ⌝ }
+    requires { ⌜ Planned (now sheet) (now plan) × Before (now sheet) modes live due × (input < 2 ^ kOf (now sheet)) ⌝ }
     ensures { λ r. ⌜ (tickOf r ≡ tick (now (sheet .entry)) modes due input) × (r .sets .live ≡ sourcesIn (now (sheet .entry)) (r .sets .modes)) ⌝ }
 {
     if modes == 0 {

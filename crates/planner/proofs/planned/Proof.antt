@@ -146,7 +146,7 @@ array-write-plan-3 c = search needs
 
 returns : tie.Need-returns
 returns c =
-    planned-of (sheet (by-hits (c .before .before)))
+    planned-of (sheet (by-hits (c .before .before))) (past (by-hits (c .before .before)))
     (lay-word startWord (omega arith) (c .start .ensures)
     (lay-word mixedWord (omega arith) (c .before .mixed .ensures) (lay-word timersWord (omega arith) (by-hits (c .before .before) .classes-of .ensures .0) (laid-hits (c .before .before)))))
 
