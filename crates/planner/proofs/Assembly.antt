@@ -18,8 +18,8 @@ use Rattle.meaning.specs.Check.{sheetRefusal}
 use Rattle.meaning.specs.Hierarchy.{complete, exits, enters}
 use Rattle.meaning.proofs.ListLaws.{rowFrom-ext}
 use Rattle.meaning.proofs.SheetLaws.{sound, n-le, t-le}
-use Rattle.reaction.specs.Plan.{exitsPart, entersPart, conflictsPart, yieldersPart, losesPart, gainsPart, delaysPart, hitsPart, fromPart, timersWord, mixedWord, startWord, planSize, Planned, sourcesIn, conflictsOf, yieldersOf, timers, mixed, hitsOf}
-use Rattle.planner.specs.Parts.{WordsAt, fromOf, delayOf}
+use Rattle.reaction.specs.Plan.{exitsPart, entersPart, conflictsPart, yieldersPart, losesPart, gainsPart, delaysPart, hitsPart, fromPart, timersWord, mixedWord, startWord, planSize, Planned, sourcesIn, conflictsOf, yieldersOf, timers, timerDelay, mixed, hitsOf}
+use Rattle.planner.specs.Parts.{WordsAt, fromOf}
 use Rattle.planner.proofs.PartLaws.{part-length, part-in, part-beside, part-word}
 use Rattle.planner.proofs.SourceLaws.{changeOf}
 use Rattle.planner.proofs.HitLaws.{inputs-le}
@@ -149,7 +149,7 @@ module _ (s : List ℕ) where
   gainsPiece = rowPiece gainsPart (λ t. sourcesIn s (enters s t))
 
   abbrev pub delaysPiece : Piece
-  delaysPiece = record { at = delaysPart; room = 64; width = 64; word = delayOf s }
+  delaysPiece = record { at = delaysPart; room = 64; width = 64; word = timerDelay s }
 
   abbrev pub hitsPiece : Piece
   hitsPiece = record { at = hitsPart; room = 64; width = 2 ^ kOf s; word = hitsOf s }

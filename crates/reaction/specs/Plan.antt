@@ -90,6 +90,10 @@ module _ (s : List ℕ) where
   unfoldable pub timers : ℕ
   timers = setOf (tOf s) (isTimer s)
 
+  -- the delay of a timer, 0 of another transition
+  abbrev pub timerDelay : ℕ → ℕ
+  timerDelay t = cond (has timers t) (delay s t) 0
+
   unfoldable pub eventsOnly : ℕ → Bool
   eventsOnly t = every (termCount s t) (λ j. isEventKind (termKind s t j))
 
@@ -116,7 +120,7 @@ module _ (s : List ℕ) where
     pub yieldersAt : (t : ℕ) → t < tOf s → getD plan (yieldersPart + t) 0 ≡ yieldersOf t
     pub losesAt : (t : ℕ) → t < tOf s → getD plan (losesPart + t) 0 ≡ sourcesIn (exits s t)
     pub gainsAt : (t : ℕ) → t < tOf s → getD plan (gainsPart + t) 0 ≡ sourcesIn (enters s t)
-    pub delaysAt : (t : ℕ) → t < 64 → getD plan (delaysPart + t) 0 ≡ cond (has timers t) (delay s t) 0
+    pub delaysAt : (t : ℕ) → t < 64 → getD plan (delaysPart + t) 0 ≡ timerDelay t
     pub hitsAt : (i : ℕ) → i < 2 ^ kOf s → getD plan (hitsPart + i) 0 ≡ hitsOf i
     pub fromAt : FromPlanned plan
     pub timingAt : getD plan timersWord 0 ≡ timers
