@@ -4,10 +4,11 @@ ghost use mathlib.Core.Bool.{true, false};
 ghost use Prim.Native.Nat.{ℕ, suc, _^_, _<_};
 ghost use Rattle.sets.specs.Sets.{those, setOf, someIn, has};
 ghost use lib.Dec.{ltb};
+ghost use Rattle.rows.specs.Over.{fiveOf};
 ghost use Rattle.meaning.specs.Sheet.{kOf, tOf};
 ghost use Rattle.meaning.specs.Check.{sheetRefusal};
 ghost use Rattle.meaning.specs.Reaction.{isDelay, triggered, eligible};
-ghost use Rattle.meaning.specs.Tick.{begin, roundsFrom, tick};
+ghost use Rattle.meaning.specs.Tick.{begin, roundsFrom, tick, fiveWords};
 ghost use Rattle.reaction.specs.Plan.{Planned, sourcesIn, yieldersOf};
 ghost use Rattle.reaction.specs.Facts.{alternativeBy};
 ghost use Rattle.reaction.specs.Rounds.{setsOf, tickOf, Derived, MovesOf, addMove, afterMoves, begun, Before};
@@ -26,6 +27,7 @@ use super::plan::mode_set;
 use super::terms::alternative;
 use super::terms::facts;
 use meaning::refusal::Refusal;
+use rows::Five;
 use sets::modes;
 use sets::transitions;
 use sheet::words::transition_count;
@@ -242,4 +244,17 @@ pub fn tick(sheet: &[u32], plan: &Plan, modes: u32, live: u64, due: u64, input: 
         return rounds(sheet, plan, power_on(sheet, plan), input);
     }
     rounds(sheet, plan, begin(modes, live, due), input)
+}
+
+// The five words of a tick.
+pub fn five_words(z: Sets) -> Five
+    ensures { λ r. ⌜ fiveOf r ≡ fiveWords (setsOf z) ⌝ }
+{
+    Five {
+        entered: z.entered,
+        exited: z.exited,
+        active: z.active,
+        low: transitions::low(z.taken),
+        high: transitions::high(z.taken),
+    }
 }
