@@ -34,7 +34,7 @@ pub record Piece : Type 0 where
   pub word : ℕ → ℕ
 
 -- a part's words keep to its room, and its room to the list
-pub record Kept (p : Piece) : Type 0 where
+pub record Fits (p : Piece) : Type 0 where
   pub within : p .width ≤ p .room
   pub inside : p .at + p .room ≤ planSize
 
@@ -43,15 +43,15 @@ abbrev laid : List Piece → List ℕ → List ℕ
 laid [] l = l
 laid (p ∷ ps) l = over (laid ps l) (p .at) (rowFrom 0 (p .width) (p .word))
 
-abbrev AllKept : List Piece → Type 0
-AllKept [] = Unit {0}
-AllKept (p ∷ ps) = Kept p × AllKept ps
+abbrev AllFit : List Piece → Type 0
+AllFit [] = Unit {0}
+AllFit (p ∷ ps) = Fits p × AllFit ps
 
 -- a list is some list as long as a plan with these parts laid over it
 pub record Laid (ps : List Piece) (m : List ℕ) : Type 0 where
   pub base : List ℕ
   pub long : length base ≡ planSize
-  pub kept : AllKept ps
+  pub fit : AllFit ps
   pub is : m ≡ laid ps base
 
 -- part k, counted from the one that was laid last
@@ -69,19 +69,19 @@ free [] k = false
 free (p ∷ ps) zero = true
 free (p ∷ ps) (suc k) = beside (nth ps k) p && free ps k
 
-laid-length : (ps : List Piece) (l : List ℕ) → length l ≡ planSize → AllKept ps → length (laid ps l) ≡ planSize
+laid-length : (ps : List Piece) (l : List ℕ) → length l ≡ planSize → AllFit ps → length (laid ps l) ≡ planSize
 laid-length [] l h k = h
 laid-length (p ∷ ps) l h k =
     let e = laid-length ps l h (k .1) in
     part-length (laid ps l) (p .at) (p .width) (p .word) (omega (arith, k .0 .within, k .0 .inside)) ∙ e
 
-kept-nth : (ps : List Piece) (k : ℕ) → AllKept ps → T (free ps k) → Kept (nth ps k)
-kept-nth [] k h b = absurd b
-kept-nth (p ∷ ps) zero h b = h .0
-kept-nth (p ∷ ps) (suc k) h b = kept-nth ps k (h .1) (and-r (beside (nth ps k) p) (free ps k) b)
+fits-nth : (ps : List Piece) (k : ℕ) → AllFit ps → T (free ps k) → Fits (nth ps k)
+fits-nth [] k h b = absurd b
+fits-nth (p ∷ ps) zero h b = h .0
+fits-nth (p ∷ ps) (suc k) h b = fits-nth ps k (h .1) (and-r (beside (nth ps k) p) (free ps k) b)
 
 -- two parts whose rooms lie beside each other do so themselves
-apart : (p q : Piece) → Kept p → Kept q → T (beside p q) → (p .at + p .width ≤ q .at) ⊎ (q .at + q .width ≤ p .at)
+apart : (p q : Piece) → Fits p → Fits q → T (beside p q) → (p .at + p .width ≤ q .at) ⊎ (q .at + q .width ≤ p .at)
 apart p q a b h = go (or-e (leb (p .at + p .room) (q .at)) (leb (q .at + q .room) (p .at)) h) (a .within) (b .within)
   where
     go : T (leb (p .at + p .room) (q .at)) ⊎ T (leb (q .at + q .room) (p .at)) → p .width ≤ p .room → q .width ≤ q .room
@@ -89,7 +89,7 @@ apart p q a b h = go (or-e (leb (p .at + p .room) (q .at)) (leb (q .at + q .room
     go (inl x) c d = inl (omega (arith, leb→le (p .at + p .room) (q .at) x))
     go (inr x) c d = inr (omega (arith, leb→le (q .at + q .room) (p .at) x))
 
-laid-part : (ps : List Piece) (k : ℕ) (l : List ℕ) → length l ≡ planSize → AllKept ps → T (free ps k)
+laid-part : (ps : List Piece) (k : ℕ) (l : List ℕ) → length l ≡ planSize → AllFit ps → T (free ps k)
     → let q = nth ps k in WordsAt (laid ps l) (q .at) (q .width) (q .word)
 laid-part [] k l h a b = absurd b
 laid-part (p ∷ ps) zero l h a b =
@@ -100,27 +100,27 @@ laid-part (p ∷ ps) (suc k) l h a b =
     let q = nth ps k in
     let later = and-r (beside q p) (free ps k) b in
     part-beside (laid ps l) (p .at) (p .width) (p .word) (omega (arith, a .0 .within, a .0 .inside)) (q .at) (q .width) (q .word)
-    (apart q p (kept-nth ps k (a .1) later) (a .0) (and-l (beside q p) (free ps k) b)) (laid-part ps k l h (a .1) later)
+    (apart q p (fits-nth ps k (a .1) later) (a .0) (and-l (beside q p) (free ps k) b)) (laid-part ps k l h (a .1) later)
 
 -- ---- what is known of a list with parts laid over it
 
 pub laid-long : {ps : List Piece} {m : List ℕ} → Laid ps m → length m ≡ planSize
-laid-long {ps} d = ap length (d .is) ∙ laid-length ps (d .base) (d .long) (d .kept)
+laid-long {ps} d = ap length (d .is) ∙ laid-length ps (d .base) (d .long) (d .fit)
 
 -- a part stands if no later one was laid over it
 pub laid-has : (k : ℕ) {ps : List Piece} {m : List ℕ} → Laid ps m → T (free ps k) → let q = nth ps k in WordsAt m (q .at) (q .width) (q .word)
-laid-has k {ps} d b = rw (d .is) (laid-part ps k (d .base) (d .long) (d .kept) b)
+laid-has k {ps} d b = rw (d .is) (laid-part ps k (d .base) (d .long) (d .fit) b)
 
 pub none-laid : (m : List ℕ) → length m ≡ planSize → Laid [] m
-none-laid m h = record { base = m; long = h; kept = tt; is = refl }
+none-laid m h = record { base = m; long = h; fit = tt; is = refl }
 
 -- one more part is laid, or one word stored
-pub lay : (p : Piece) {ps : List Piece} {m n : List ℕ} → Kept p → Laid ps m → n ≡ over m (p .at) (rowFrom 0 (p .width) (p .word)) → Laid (p ∷ ps) n
+pub lay : (p : Piece) {ps : List Piece} {m n : List ℕ} → Fits p → Laid ps m → n ≡ over m (p .at) (rowFrom 0 (p .width) (p .word)) → Laid (p ∷ ps) n
 lay p k d e =
     record {
       base = d .base;
       long = d .long;
-      kept = (k, d .kept);
+      fit = (k, d .fit);
       is = e ∙ ap (λ (l : List ℕ). over l (p .at) (rowFrom 0 (p .width) (p .word))) (d .is);
     }
 
@@ -189,11 +189,11 @@ module _ (s : List ℕ) where
       }
 
   module _ (h : sheetRefusal s ≡ 0) where
-    pub row-kept : (i : ℕ) (f : ℕ → ℕ) → i + 64 ≤ planSize → Kept (rowPiece i f)
-    row-kept i f k = record { within = t-le s (sound s h); inside = k }
+    pub row-fits : (i : ℕ) (f : ℕ → ℕ) → i + 64 ≤ planSize → Fits (rowPiece i f)
+    row-fits i f k = record { within = t-le s (sound s h); inside = k }
 
-    pub hits-kept : Kept hitsPiece
-    hits-kept = record { within = inputs-le s h; inside = omega arith }
+    pub hits-fit : Fits hitsPiece
+    hits-fit = record { within = inputs-le s h; inside = omega arith }
 
     -- LOSES and GAINS: their words by the mode sets themselves
     exits-word : (t : ℕ) → exits s t % 2 ^ 32 ≡ exits s t
