@@ -84,7 +84,8 @@ fn timer_delay(sheet: &[u32], timing: u64, t: usize) -> u64
 // DELAYS.
 pub fn put_delays(sheet: &[u32], timing: u64, plan: &mut Plan)
     requires { ⌜ (sheetRefusal (now sheet) ≡ 0) × (length (now plan) ≡ planSize) × (timing ≡ timers (now sheet)) ⌝ }
-    ensures { λ _. ⌜ now (plan .exit) ≡ over (now (plan .entry)) delaysPart (rowFrom 0 64 (timerDelay (now (sheet .entry)))) ⌝ }
+    ensures { λ _. ⌜ now (plan .exit)
+        ≡ over (now (plan .entry)) delaysPart (rowFrom 0 64 (timerDelay (now (sheet .entry)))) ⌝ }
 {
     let mut t = 0;
     while t < 64 {

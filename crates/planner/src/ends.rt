@@ -18,7 +18,10 @@ use sheet::words::transition_count;
 // EXITS and ENTERS.
 pub fn put_ends(sheet: &[u32], inside: &[u32; 32], plan: &mut Plan)
     requires { ⌜ (sheetRefusal (now sheet) ≡ 0) × (length (now plan) ≡ planSize) × Insides (now sheet) (now inside) ⌝ }
-    ensures { λ _. ⌜ now (plan .exit) ≡ over (over (now (plan .entry)) exitsPart (rowFrom 0 (tOf (now (sheet .entry))) (exits (now (sheet .entry))))) entersPart (rowFrom 0 (tOf (now (sheet .entry))) (enters (now (sheet .entry)))) ⌝ }
+    ensures { λ _. ⌜ now (plan .exit)
+        ≡ over
+        (over (now (plan .entry)) exitsPart (rowFrom 0 (tOf (now (sheet .entry))) (exits (now (sheet .entry)))))
+        entersPart (rowFrom 0 (tOf (now (sheet .entry))) (enters (now (sheet .entry)))) ⌝ }
 {
     let count = transition_count(sheet);
     let mut t = 0;

@@ -64,7 +64,8 @@ pub struct Moves {
 
 // The transitions of a set whose terms hold.
 fn judged(sheet: &[u32], set: u64, f: &[u64; 8]) -> u64
-    requires { ⌜ (sheetRefusal (now sheet) ≡ 0) × ((t : ℕ) → has set t ≡ true → (t < tOf (now sheet)) × (isDelay (now sheet) t ≡ false)) ⌝ }
+    requires { ⌜ (sheetRefusal (now sheet) ≡ 0)
+        × ((t : ℕ) → has set t ≡ true → (t < tOf (now sheet)) × (isDelay (now sheet) t ≡ false)) ⌝ }
     ensures { λ r. ⌜ r ≡ those 64 set (λ t. ltb 0 (alternativeBy (now (sheet .entry)) (now (f .entry)) t)) ⌝ }
 {
     let mut r = 0u64;
@@ -96,7 +97,8 @@ fn triggered(sheet: &[u32], plan: &Plan, z: Sets, input: u32) -> u64
 // The transitions that give way to one of a set.
 fn yielding(sheet: &[u32], plan: &Plan, ts: u64) -> u64
     requires { ⌜ Planned (now sheet) (now plan) × (ts < 2 ^ tOf (now sheet)) ⌝ }
-    ensures { λ r. ⌜ r ≡ setOf (tOf (now (sheet .entry))) (λ u. someIn (tOf (now (sheet .entry))) ts (λ t. has (yieldersOf (now (sheet .entry)) t) u)) ⌝ }
+    ensures { λ r. ⌜ r ≡ setOf (tOf (now (sheet .entry)))
+        (λ u. someIn (tOf (now (sheet .entry))) ts (λ t. has (yieldersOf (now (sheet .entry)) t) u)) ⌝ }
 {
     let mut r = 0u64;
     let mut rest = ts;
@@ -180,7 +182,9 @@ fn ended(refusal: Refusal, sets: Sets, rounds: u32) -> Ticked
 // All rounds of a tick: each takes a transition not taken before, so T and one look are enough.
 fn rounds(sheet: &[u32], plan: &Plan, start: Sets, input: u32) -> Ticked
     requires { ⌜ Planned (now sheet) (now plan) × Derived (now sheet) start × (input < 2 ^ kOf (now sheet)) ⌝ }
-    ensures { λ r. ⌜ (tickOf r ≡ roundsFrom (now (sheet .entry)) (suc (tOf (now (sheet .entry)))) (start .due) input (setsOf start) 0) × (r .sets .live ≡ sourcesIn (now (sheet .entry)) (r .sets .modes)) ⌝ }
+    ensures { λ r. ⌜ (tickOf r
+        ≡ roundsFrom (now (sheet .entry)) (suc (tOf (now (sheet .entry)))) (start .due) input (setsOf start) 0)
+        × (r .sets .live ≡ sourcesIn (now (sheet .entry)) (r .sets .modes)) ⌝ }
 {
     let most = transition_count(sheet);
     let mut z = start;
@@ -238,7 +242,8 @@ fn power_on(sheet: &[u32], plan: &Plan) -> Sets
 // The tick from a mode set (0: power-on) with the transitions whose source is in it and its due timers.
 pub fn tick(sheet: &[u32], plan: &Plan, modes: u32, live: u64, due: u64, input: u32) -> Ticked
     requires { ⌜ Planned (now sheet) (now plan) × Before (now sheet) modes live due × (input < 2 ^ kOf (now sheet)) ⌝ }
-    ensures { λ r. ⌜ (tickOf r ≡ tick (now (sheet .entry)) modes due input) × (r .sets .live ≡ sourcesIn (now (sheet .entry)) (r .sets .modes)) ⌝ }
+    ensures { λ r. ⌜ (tickOf r ≡ tick (now (sheet .entry)) modes due input)
+        × (r .sets .live ≡ sourcesIn (now (sheet .entry)) (r .sets .modes)) ⌝ }
 {
     if modes == 0 {
         return rounds(sheet, plan, power_on(sheet, plan), input);
