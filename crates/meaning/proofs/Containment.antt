@@ -1,7 +1,7 @@
--- Containment of modes: the test against a relation, meeting modes and children. Assumes nothing.
+-- Containment of modes: the test against a relation, meeting modes and children, conflict. Assumes nothing.
 use mathlib.Core.Path.{_≡_, refl, sym, ap, _∙_, subst}
 use mathlib.Core.Logic.{_⊎_, inl, inr}
-use mathlib.Core.Bool.{Bool, true, false, not, _&&_, cond}
+use mathlib.Core.Bool.{Bool, true, false, not, _&&_, cond, or-comm}
 use mathlib.Core.List.{List, [], _∷_}
 use Prim.Native.Nat.{ℕ, zero, suc, _≤_, _<_, zero-le}
 use native.Mathlib.Nat.{le-refl, le-trans, lt-of-le-of-lt, not-suc-le-zero, eq-zero-or-pos, le-antisymm}
@@ -12,6 +12,7 @@ use Rattle.sets.proofs.Tests.{of-true, and-l, and-r, and-i, or-e, or-l, or-r}
 use Rattle.meaning.specs.Sheet.{nOf, tOf, kind, parent, isChild, source, target, containsIn, contains, strictlyContains, meetingFrom, meetingOf, meeting}
 use Rattle.meaning.specs.Check.{endOk}
 use Rattle.meaning.specs.Hierarchy.{childIn, childHolding}
+use Rattle.meaning.specs.Reaction.{conflict}
 use Rattle.meaning.proofs.ListLaws.{Holds, allOf-e}
 use Rattle.meaning.proofs.SheetLaws.{Rooted, parent-le, parent-n, parent-le-of-suc, Sound, tree}
 
@@ -241,3 +242,14 @@ ends s sd t l =
 
         not-b : c ≡ b → ⊥
         not-b e = T-not (contains s b a) (h .1 .1 .1 .0) (contains-i s ro a (subst (λ (i : ℕ). Within s i a) e (left .holds)) an)
+
+-- a meeting mode is a mode
+pub meeting-lt : (s : List ℕ) (sd : Sound s) (t : ℕ) → t < tOf s → meeting s t < nOf s
+meeting-lt s sd t l =
+    let ro = tree s sd in
+    let e = ends s sd t l in
+    subst (λ (m : ℕ). m < nOf s) (e .left .par) (parent-n s ro _ (lt-of-le-of-lt (within-le s ro (e .left .holds) (e .source-n)) (e .source-n)))
+
+pub conflict-sym : (s : List ℕ) (t u : ℕ) → conflict s t u ≡ conflict s u t
+unfolding conflict
+conflict-sym s t u = or-comm (contains s (meeting s t) (meeting s u)) (contains s (meeting s u) (meeting s t))

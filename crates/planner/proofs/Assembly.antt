@@ -18,13 +18,13 @@ use Rattle.meaning.specs.Check.{sheetRefusal}
 use Rattle.meaning.specs.Hierarchy.{complete, exits, enters}
 use Rattle.meaning.proofs.ListLaws.{rowFrom-ext}
 use Rattle.meaning.proofs.SheetLaws.{sound, n-le, t-le}
-use Rattle.reaction.specs.Plan.{Planned, sourcesIn, conflictsOf, yieldersOf, timers, mixed, hitsOf}
-use Rattle.planner.specs.Parts.{Part, fromOf, delayOf}
+use Rattle.reaction.specs.Plan.{exitsPart, entersPart, conflictsPart, yieldersPart, losesPart, gainsPart, delaysPart, hitsPart, fromPart, timersWord, mixedWord, startWord, planSize, Planned, sourcesIn, conflictsOf, yieldersOf, timers, timerDelay, mixed, hitsOf}
+use Rattle.planner.specs.Parts.{WordsAt, fromOf}
 use Rattle.planner.proofs.PartLaws.{part-length, part-in, part-beside, part-word}
 use Rattle.planner.proofs.SourceLaws.{changeOf}
 use Rattle.planner.proofs.HitLaws.{inputs-le}
 
--- ---- parts of a list of 547 words
+-- ---- parts of a list as long as a plan
 
 -- a part: its place, the room that it has there, how many words it is, and which
 pub record Piece : Type 0 where
@@ -34,24 +34,24 @@ pub record Piece : Type 0 where
   pub word : ℕ → ℕ
 
 -- a part's words keep to its room, and its room to the list
-pub record Kept (p : Piece) : Type 0 where
+pub record Fits (p : Piece) : Type 0 where
   pub within : p .width ≤ p .room
-  pub inside : p .at + p .room ≤ 547
+  pub inside : p .at + p .room ≤ planSize
 
 -- the parts laid over a list, the last one first
 abbrev laid : List Piece → List ℕ → List ℕ
 laid [] l = l
 laid (p ∷ ps) l = over (laid ps l) (p .at) (rowFrom 0 (p .width) (p .word))
 
-abbrev AllKept : List Piece → Type 0
-AllKept [] = Unit {0}
-AllKept (p ∷ ps) = Kept p × AllKept ps
+abbrev AllFit : List Piece → Type 0
+AllFit [] = Unit {0}
+AllFit (p ∷ ps) = Fits p × AllFit ps
 
--- a list is some list of 547 words with these parts laid over it
+-- a list is some list as long as a plan with these parts laid over it
 pub record Laid (ps : List Piece) (m : List ℕ) : Type 0 where
   pub base : List ℕ
-  pub long : length base ≡ 547
-  pub kept : AllKept ps
+  pub long : length base ≡ planSize
+  pub fit : AllFit ps
   pub is : m ≡ laid ps base
 
 -- part k, counted from the one that was laid last
@@ -69,19 +69,19 @@ free [] k = false
 free (p ∷ ps) zero = true
 free (p ∷ ps) (suc k) = beside (nth ps k) p && free ps k
 
-laid-length : (ps : List Piece) (l : List ℕ) → length l ≡ 547 → AllKept ps → length (laid ps l) ≡ 547
+laid-length : (ps : List Piece) (l : List ℕ) → length l ≡ planSize → AllFit ps → length (laid ps l) ≡ planSize
 laid-length [] l h k = h
 laid-length (p ∷ ps) l h k =
     let e = laid-length ps l h (k .1) in
     part-length (laid ps l) (p .at) (p .width) (p .word) (omega (arith, k .0 .within, k .0 .inside)) ∙ e
 
-kept-nth : (ps : List Piece) (k : ℕ) → AllKept ps → T (free ps k) → Kept (nth ps k)
-kept-nth [] k h b = absurd b
-kept-nth (p ∷ ps) zero h b = h .0
-kept-nth (p ∷ ps) (suc k) h b = kept-nth ps k (h .1) (and-r (beside (nth ps k) p) (free ps k) b)
+fits-nth : (ps : List Piece) (k : ℕ) → AllFit ps → T (free ps k) → Fits (nth ps k)
+fits-nth [] k h b = absurd b
+fits-nth (p ∷ ps) zero h b = h .0
+fits-nth (p ∷ ps) (suc k) h b = fits-nth ps k (h .1) (and-r (beside (nth ps k) p) (free ps k) b)
 
 -- two parts whose rooms lie beside each other do so themselves
-apart : (p q : Piece) → Kept p → Kept q → T (beside p q) → (p .at + p .width ≤ q .at) ⊎ (q .at + q .width ≤ p .at)
+apart : (p q : Piece) → Fits p → Fits q → T (beside p q) → (p .at + p .width ≤ q .at) ⊎ (q .at + q .width ≤ p .at)
 apart p q a b h = go (or-e (leb (p .at + p .room) (q .at)) (leb (q .at + q .room) (p .at)) h) (a .within) (b .within)
   where
     go : T (leb (p .at + p .room) (q .at)) ⊎ T (leb (q .at + q .room) (p .at)) → p .width ≤ p .room → q .width ≤ q .room
@@ -89,8 +89,8 @@ apart p q a b h = go (or-e (leb (p .at + p .room) (q .at)) (leb (q .at + q .room
     go (inl x) c d = inl (omega (arith, leb→le (p .at + p .room) (q .at) x))
     go (inr x) c d = inr (omega (arith, leb→le (q .at + q .room) (p .at) x))
 
-laid-part : (ps : List Piece) (k : ℕ) (l : List ℕ) → length l ≡ 547 → AllKept ps → T (free ps k)
-    → let q = nth ps k in Part (laid ps l) (q .at) (q .width) (q .word)
+laid-part : (ps : List Piece) (k : ℕ) (l : List ℕ) → length l ≡ planSize → AllFit ps → T (free ps k)
+    → let q = nth ps k in WordsAt (laid ps l) (q .at) (q .width) (q .word)
 laid-part [] k l h a b = absurd b
 laid-part (p ∷ ps) zero l h a b =
     let e = laid-length ps l h (a .1) in
@@ -100,34 +100,34 @@ laid-part (p ∷ ps) (suc k) l h a b =
     let q = nth ps k in
     let later = and-r (beside q p) (free ps k) b in
     part-beside (laid ps l) (p .at) (p .width) (p .word) (omega (arith, a .0 .within, a .0 .inside)) (q .at) (q .width) (q .word)
-    (apart q p (kept-nth ps k (a .1) later) (a .0) (and-l (beside q p) (free ps k) b)) (laid-part ps k l h (a .1) later)
+    (apart q p (fits-nth ps k (a .1) later) (a .0) (and-l (beside q p) (free ps k) b)) (laid-part ps k l h (a .1) later)
 
 -- ---- what is known of a list with parts laid over it
 
-pub laid-long : {ps : List Piece} {m : List ℕ} → Laid ps m → length m ≡ 547
-laid-long {ps} d = ap length (d .is) ∙ laid-length ps (d .base) (d .long) (d .kept)
+pub laid-long : {ps : List Piece} {m : List ℕ} → Laid ps m → length m ≡ planSize
+laid-long {ps} d = ap length (d .is) ∙ laid-length ps (d .base) (d .long) (d .fit)
 
 -- a part stands if no later one was laid over it
-pub laid-has : (k : ℕ) {ps : List Piece} {m : List ℕ} → Laid ps m → T (free ps k) → let q = nth ps k in Part m (q .at) (q .width) (q .word)
-laid-has k {ps} d b = rw (d .is) (laid-part ps k (d .base) (d .long) (d .kept) b)
+pub laid-has : (k : ℕ) {ps : List Piece} {m : List ℕ} → Laid ps m → T (free ps k) → let q = nth ps k in WordsAt m (q .at) (q .width) (q .word)
+laid-has k {ps} d b = rw (d .is) (laid-part ps k (d .base) (d .long) (d .fit) b)
 
-pub none-laid : (m : List ℕ) → length m ≡ 547 → Laid [] m
-none-laid m h = record { base = m; long = h; kept = tt; is = refl }
+pub none-laid : (m : List ℕ) → length m ≡ planSize → Laid [] m
+none-laid m h = record { base = m; long = h; fit = tt; is = refl }
 
 -- one more part is laid, or one word stored
-pub lay : (p : Piece) {ps : List Piece} {m n : List ℕ} → Kept p → Laid ps m → n ≡ over m (p .at) (rowFrom 0 (p .width) (p .word)) → Laid (p ∷ ps) n
+pub lay : (p : Piece) {ps : List Piece} {m n : List ℕ} → Fits p → Laid ps m → n ≡ over m (p .at) (rowFrom 0 (p .width) (p .word)) → Laid (p ∷ ps) n
 lay p k d e =
     record {
       base = d .base;
       long = d .long;
-      kept = (k, d .kept);
+      fit = (k, d .fit);
       is = e ∙ ap (λ (l : List ℕ). over l (p .at) (rowFrom 0 (p .width) (p .word))) (d .is);
     }
 
 abbrev pub wordPiece : ℕ → ℕ → Piece
 wordPiece i v = record { at = i; room = 1; width = 1; word = λ _. v }
 
-pub lay-word : (i : ℕ) {v x : ℕ} {ps : List Piece} {m : List ℕ} → i < 547 → v ≡ x → Laid ps m → Laid (wordPiece i x ∷ ps) (set m i v)
+pub lay-word : (i : ℕ) {v x : ℕ} {ps : List Piece} {m : List ℕ} → i < planSize → v ≡ x → Laid ps m → Laid (wordPiece i x ∷ ps) (set m i v)
 lay-word i {v} {x} {ps} {m} h e d =
     lay (wordPiece i x) (record { within = omega arith; inside = omega arith }) d
     (rw e (part-word m i x (omega (arith, laid-long d))))
@@ -136,43 +136,44 @@ lay-word i {v} {x} {ps} {m} h e d =
 
 module _ (s : List ℕ) where
   abbrev pub fromPiece : Piece
-  fromPiece = record { at = 512; room = 32; width = 32; word = fromOf s }
+  fromPiece = record { at = fromPart; room = 32; width = 32; word = fromOf s }
 
   -- a word for each transition
   abbrev pub rowPiece : ℕ → (ℕ → ℕ) → Piece
   rowPiece i f = record { at = i; room = 64; width = tOf s; word = f }
 
   abbrev pub losesPiece : Piece
-  losesPiece = rowPiece 256 (λ t. sourcesIn s (exits s t))
+  losesPiece = rowPiece losesPart (λ t. sourcesIn s (exits s t))
 
   abbrev pub gainsPiece : Piece
-  gainsPiece = rowPiece 320 (λ t. sourcesIn s (enters s t))
+  gainsPiece = rowPiece gainsPart (λ t. sourcesIn s (enters s t))
 
   abbrev pub delaysPiece : Piece
-  delaysPiece = record { at = 384; room = 64; width = 64; word = delayOf s }
+  delaysPiece = record { at = delaysPart; room = 64; width = 64; word = timerDelay s }
 
   abbrev pub hitsPiece : Piece
-  hitsPiece = record { at = 448; room = 64; width = 2 ^ kOf s; word = hitsOf s }
+  hitsPiece = record { at = hitsPart; room = 64; width = 2 ^ kOf s; word = hitsOf s }
 
   -- FROM, EXITS and ENTERS; LOSES and GAINS; CONFLICTS and YIELDERS; DELAYS and HITS; TIMERS, MIXED and START
   abbrev pub ends : List Piece
-  ends = rowPiece 64 (enters s) ∷ rowPiece 0 (exits s) ∷ fromPiece ∷ []
+  ends = rowPiece entersPart (enters s) ∷ rowPiece exitsPart (exits s) ∷ fromPiece ∷ []
 
   abbrev pub changes : List Piece
   changes = gainsPiece ∷ losesPiece ∷ ends
 
   abbrev pub conflicts : List Piece
-  conflicts = rowPiece 192 (yieldersOf s) ∷ rowPiece 128 (conflictsOf s) ∷ changes
+  conflicts = rowPiece yieldersPart (yieldersOf s) ∷ rowPiece conflictsPart (conflictsOf s) ∷ changes
 
   abbrev pub classes : List Piece
   classes = hitsPiece ∷ delaysPiece ∷ conflicts
 
   abbrev pub whole : List Piece
-  whole = wordPiece 546 (complete s (single 0)) ∷ wordPiece 545 (mixed s) ∷ wordPiece 544 (timers s) ∷ classes
+  whole = wordPiece startWord (complete s (single 0)) ∷ wordPiece mixedWord (mixed s) ∷ wordPiece timersWord (timers s) ∷ classes
 
-  pub planned-of : {m : List ℕ} → Laid whole m → Planned s m
-  planned-of d =
+  pub planned-of : {m : List ℕ} → sheetRefusal s ≡ 0 → Laid whole m → Planned s m
+  planned-of h d =
       record {
+        passes = h;
         exitsAt = laid-has 10 d tt;
         entersAt = laid-has 9 d tt;
         conflictsAt = laid-has 6 d tt;
@@ -188,11 +189,11 @@ module _ (s : List ℕ) where
       }
 
   module _ (h : sheetRefusal s ≡ 0) where
-    pub row-kept : (i : ℕ) (f : ℕ → ℕ) → i + 64 ≤ 547 → Kept (rowPiece i f)
-    row-kept i f k = record { within = t-le s (sound s h); inside = k }
+    pub row-fits : (i : ℕ) (f : ℕ → ℕ) → i + 64 ≤ planSize → Fits (rowPiece i f)
+    row-fits i f k = record { within = t-le s (sound s h); inside = k }
 
-    pub hits-kept : Kept hitsPiece
-    hits-kept = record { within = inputs-le s h; inside = omega arith }
+    pub hits-fit : Fits hitsPiece
+    hits-fit = record { within = inputs-le s h; inside = omega arith }
 
     -- LOSES and GAINS: their words by the mode sets themselves
     exits-word : (t : ℕ) → exits s t % 2 ^ 32 ≡ exits s t
@@ -203,17 +204,17 @@ module _ (s : List ℕ) where
     unfolding enters complete
     enters-word t = mod-eq-of-lt (lt-of-lt-of-le (setOf-lt (nOf s) _) (pow-le-pow-right {n = 2} (omega arith) (n-le s (sound s h))))
 
-    changes-are : (sets at : ℕ) (g : ℕ → ℕ) (m : List ℕ) {n : List ℕ} → ((t : ℕ) → g t % 2 ^ 32 ≡ g t) → Part m sets (tOf s) g
+    changes-are : (sets at : ℕ) (g : ℕ → ℕ) (m : List ℕ) {n : List ℕ} → ((t : ℕ) → g t % 2 ^ 32 ≡ g t) → WordsAt m sets (tOf s) g
         → n ≡ over m at (rowFrom 0 (tOf s) (changeOf s m sets))
         → n ≡ over m at (rowFrom 0 (tOf s) (λ t. sourcesIn s (g t)))
     changes-are sets at g m w p e =
         e ∙ ap (over m at) (rowFrom-ext (changeOf s m sets) (λ t. sourcesIn s (g t)) 0 (tOf s)
         (λ u a b. ap (sourcesIn s) (ap (λ (x : ℕ). x % 2 ^ 32) (p u (omega arith)) ∙ w u)))
 
-    pub loses-are : {m n : List ℕ} → Laid ends m → n ≡ over m 256 (rowFrom 0 (tOf s) (changeOf s m 0)) → n ≡ over m 256 (rowFrom 0 (tOf s) (λ t. sourcesIn s (exits s t)))
-    loses-are {m} d e = changes-are 0 256 (exits s) m exits-word (laid-has 1 d tt) e
+    pub loses-are : {m n : List ℕ} → Laid ends m → n ≡ over m losesPart (rowFrom 0 (tOf s) (changeOf s m exitsPart)) → n ≡ over m losesPart (rowFrom 0 (tOf s) (λ t. sourcesIn s (exits s t)))
+    loses-are {m} d e = changes-are exitsPart losesPart (exits s) m exits-word (laid-has 1 d tt) e
 
     pub gains-are : {m n : List ℕ} → Laid (losesPiece ∷ ends) m
-        → n ≡ over m 320 (rowFrom 0 (tOf s) (changeOf s m 64))
-        → n ≡ over m 320 (rowFrom 0 (tOf s) (λ t. sourcesIn s (enters s t)))
-    gains-are {m} d e = changes-are 64 320 (enters s) m enters-word (laid-has 1 d tt) e
+        → n ≡ over m gainsPart (rowFrom 0 (tOf s) (changeOf s m entersPart))
+        → n ≡ over m gainsPart (rowFrom 0 (tOf s) (λ t. sourcesIn s (enters s t)))
+    gains-are {m} d e = changes-are entersPart gainsPart (enters s) m enters-word (laid-has 1 d tt) e

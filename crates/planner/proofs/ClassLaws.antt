@@ -15,8 +15,8 @@ use Rattle.sets.proofs.Facts.{setOf-e}
 use Rattle.sets.proofs.Membership.{has-union, has-minus, has-below, below-lt, minus-le, has-setOf, setOf-ext}
 use Rattle.meaning.specs.Sheet.{tOf}
 use Rattle.meaning.specs.Reaction.{isDelay, delay, isTimer}
-use Rattle.reaction.specs.Plan.{timers, eventsOnly, mixed}
-use Rattle.planner.specs.Parts.{isSure, sure, delayOf}
+use Rattle.reaction.specs.Plan.{timers, timerDelay, eventsOnly, mixed}
+use Rattle.planner.specs.Parts.{isSure, sure}
 
 -- neither a timer nor a sure one, of a transition that is one of delay v or not (d), or has event terms alone (e)
 neither : (v : ℕ) (d e : Bool) → not (d && ltb 0 v || cond d (eqb v 0) e) ≡ (not d && not e)
@@ -47,8 +47,8 @@ module _ (s : List ℕ) where
   unfolding timers
   timer-lt t e h = setOf-e (tOf s) (isTimer s) t (of-true (ap (λ (y : ℕ). has y t) (sym e) ∙ h)) .0
 
-  pub delay-of : {x : ℕ} (t : ℕ) → x ≡ timers s → has x t ≡ true → delayOf s t ≡ delay s t
-  delay-of t e h = rw (sym e, h)
+  pub timer-delay : {x : ℕ} (t : ℕ) → x ≡ timers s → has x t ≡ true → timerDelay s t ≡ delay s t
+  timer-delay t e h = rw (sym e, h)
 
-  pub delay-none : {x : ℕ} (t : ℕ) → x ≡ timers s → has x t ≡ false → delayOf s t ≡ 0
+  pub delay-none : {x : ℕ} (t : ℕ) → x ≡ timers s → has x t ≡ false → timerDelay s t ≡ 0
   delay-none t e h = rw (sym e, h)

@@ -1,7 +1,7 @@
 -- Conflict and giving way, by the words for what is within each mode. Assumes nothing.
-use mathlib.Core.Path.{_≡_, ap, ap₂, _∙_, subst}
+use mathlib.Core.Path.{_≡_, ap, ap₂, _∙_}
 use mathlib.Core.Logic.{inr}
-use mathlib.Core.Bool.{Bool, not, _&&_, _||_, or-comm}
+use mathlib.Core.Bool.{Bool, not, _&&_, _||_}
 use mathlib.Core.List.{List}
 use Prim.Native.Nat.{ℕ, _+_, _≤_, _<_}
 use native.Mathlib.Nat.{lt-of-le-of-lt}
@@ -17,12 +17,12 @@ use Rattle.meaning.specs.Lists.{rowFrom}
 use Rattle.meaning.specs.Sheet.{nOf, tOf, source, contains, strictlyContains, meeting}
 use Rattle.meaning.specs.Check.{sheetRefusal}
 use Rattle.meaning.specs.Reaction.{conflict, givesWay}
-use Rattle.meaning.proofs.SheetLaws.{parent-n, sound, n-le, t-le, tree, source-lt}
-use Rattle.meaning.proofs.Containment.{ends, within-le}
+use Rattle.meaning.proofs.SheetLaws.{sound, n-le, t-le, source-lt}
+use Rattle.meaning.proofs.Containment.{meeting-lt, conflict-sym}
 use Rattle.hierarchy.specs.Inside.{Insides}
-use Rattle.reaction.specs.Plan.{sourcesIn, conflictsOf, yieldersOf}
+use Rattle.reaction.specs.Plan.{conflictsPart, yieldersPart, fromPart, planSize, sourcesIn, conflictsOf, yieldersOf}
 use Rattle.reaction.proofs.PlanLaws.{sourcesIn-lt, has-sourcesIn}
-use Rattle.planner.specs.Parts.{Part, fromOf, Meetings}
+use Rattle.planner.specs.Parts.{WordsAt, fromOf, Meetings}
 use Rattle.planner.proofs.PartLaws.{part-out, part-beside, front-in}
 
 -- ---- conflict and giving way
@@ -40,24 +40,13 @@ yields a e n c h =
     (and-i (not n) c (not-T n (λ x. T-not e ne (h x))) (and-l c (not e && a) k)))
 
 module _ (s : List ℕ) (h : sheetRefusal s ≡ 0) where
-  -- a meeting mode is a mode
-  pub meeting-lt : (t : ℕ) → t < tOf s → meeting s t < nOf s
-  meeting-lt t l =
-      let sd = sound s h in
-      let e = ends s sd t l in
-      subst (λ (m : ℕ). m < nOf s) (e .left .par) (parent-n s (tree s sd) _ (lt-of-le-of-lt (within-le s (tree s sd) (e .left .holds) (e .source-n)) (e .source-n)))
-
   pub meetings-done : (l r : List ℕ) (t : ℕ) → 64 ≤ length l → t ≡ tOf s → r ≡ over l 0 (rowFrom 0 t (meeting s)) → Meetings s r
   unfolding Meetings
   meetings-done l r t b k e u a = rw e (front-in l t (meeting s) (omega (arith, t-le s (sound s h))) u (omega arith))
 
   pub meeting-small : (meets : List ℕ) → Meetings s meets → (t : ℕ) → t < tOf s → getD meets t 0 < 32
   unfolding Meetings
-  meeting-small meets m t l = omega (arith, m t l, meeting-lt t l, n-le s (sound s h))
-
-  conflict-sym : (t u : ℕ) → conflict s t u ≡ conflict s u t
-  unfolding conflict
-  conflict-sym t u = or-comm (contains s (meeting s t) (meeting s u)) (contains s (meeting s u) (meeting s t))
+  meeting-small meets m t l = omega (arith, m t l, meeting-lt s (sound s h) t l, n-le s (sound s h))
 
   module _ (inside : List ℕ) (i : Insides s inside) where
     has-inside : (p q : ℕ) → p < nOf s → q < nOf s → has (getD inside p 0) q ≡ contains s p q
@@ -68,8 +57,9 @@ module _ (s : List ℕ) (h : sheetRefusal s ≡ 0) where
         → let p = getD meets t 0 in let q = getD meets u 0 in (has (getD inside p 0) q || has (getD inside q 0) p) ≡ conflict s t u
     unfolding Meetings conflict
     conflict-is meets m t u a b =
-        rw (m t a, m u b)
-        (ap₂ _||_ (has-inside (meeting s t) (meeting s u) (meeting-lt t a) (meeting-lt u b)) (has-inside (meeting s u) (meeting s t) (meeting-lt u b) (meeting-lt t a)))
+        let p = meeting-lt s (sound s h) t a in
+        let q = meeting-lt s (sound s h) u b in
+        rw (m t a, m u b) (ap₂ _||_ (has-inside (meeting s t) (meeting s u) p q) (has-inside (meeting s u) (meeting s t) q p))
 
     -- the sources strictly within t's
     has-within : (t u : ℕ) → t < tOf s → u < tOf s
@@ -89,7 +79,7 @@ module _ (s : List ℕ) (h : sheetRefusal s ≡ 0) where
         has-meet (sourcesIn s x) rivals u
         ∙ ap₂ _&&_ (has-sourcesIn s x u k ∙ has-within t u l k) (has-setOf (tOf s) (λ v. not (eqb t v) && conflict s t v) u k)
         ∙ yields (contains s (source s t) (source s u)) (eqb (source s t) (source s u)) (eqb t u) (conflict s t u) (λ e. of-true (eq-eqb (source s t) (source s u) (ap (source s) (eqb→eq t u e))))
-        ∙ ap (λ (c : Bool). c && (not (eqb (source s t) (source s u)) && contains s (source s t) (source s u))) (conflict-sym t u))
+        ∙ ap (λ (c : Bool). c && (not (eqb (source s t) (source s u)) && contains s (source s t) (source s u))) (conflict-sym s t u))
 
     pub yielders-word : (t : ℕ) → t < tOf s → {a b x y w : ℕ} → a ≡ source s t → b ≡ single a → x ≡ minus (getD inside a 0) b → y ≡ sourcesIn s x
         → w ≡ conflictsOf s t
@@ -97,9 +87,9 @@ module _ (s : List ℕ) (h : sheetRefusal s ≡ 0) where
     yielders-word t l ea eb ex ey ew = rw (ey, ex, eb, ea, ew) (yielders-is t l)
 
 -- a part before YIELDERS and the part FROM, while YIELDERS is laid
-module _ (s l : List ℕ) (t : ℕ) {m : List ℕ} (e : m ≡ over l 192 (rowFrom 0 t (yieldersOf s))) (h : 547 ≤ length l) (k : t < 64) where
-  pub yielders-from : Part l 512 32 (fromOf s) → Part m 512 32 (fromOf s)
-  yielders-from p = rw e (part-beside l 192 t (yieldersOf s) (omega arith) 512 32 (fromOf s) (inr (omega arith)) p)
+module _ (s l : List ℕ) (t : ℕ) {m : List ℕ} (e : m ≡ over l yieldersPart (rowFrom 0 t (yieldersOf s))) (h : planSize ≤ length l) (k : t < 64) where
+  pub yielders-from : WordsAt l fromPart 32 (fromOf s) → WordsAt m fromPart 32 (fromOf s)
+  yielders-from p = rw e (part-beside l yieldersPart t (yieldersOf s) (omega arith) fromPart 32 (fromOf s) (inr (omega arith)) p)
 
-  pub yielders-conflicts : Part l 128 (tOf s) (conflictsOf s) → t < tOf s → getD m (128 + t) 0 ≡ conflictsOf s t
-  yielders-conflicts p a = rw e (part-out l 192 t (yieldersOf s) (omega arith) (128 + t) (λ x y. omega arith) ∙ p t a)
+  pub yielders-conflicts : WordsAt l conflictsPart (tOf s) (conflictsOf s) → t < tOf s → getD m (conflictsPart + t) 0 ≡ conflictsOf s t
+  yielders-conflicts p a = rw e (part-out l yieldersPart t (yieldersOf s) (omega arith) (conflictsPart + t) (λ x y. omega arith) ∙ p t a)

@@ -13,7 +13,7 @@ use Rattle.rows.specs.Over.{over}
 use Rattle.rows.proofs.Laws.{length-over, over-nil, over-sets}
 use Rattle.meaning.specs.Lists.{rowFrom}
 use Rattle.meaning.proofs.ListLaws.{rowFrom-at, rowFrom-length}
-use Rattle.planner.specs.Parts.{Part}
+use Rattle.planner.specs.Parts.{WordsAt}
 
 -- ---- one word of a list with words laid over it
 
@@ -72,7 +72,7 @@ module _ (l : List ℕ) (at w : ℕ) (f : ℕ → ℕ) (h : at + w ≤ length l)
   pub part-out : (i : ℕ) → (at ≤ i → i < at + w → ⊥) → getD (over l at (rowFrom 0 w f)) i 0 ≡ getD l i 0
   part-out i k = over-out l at (rowFrom 0 w f) fits i (λ a b. k a (omega (arith, rowFrom-length f 0 w)))
 
-  pub part-beside : (b v : ℕ) (g : ℕ → ℕ) → (b + v ≤ at) ⊎ (at + w ≤ b) → Part l b v g → Part (over l at (rowFrom 0 w f)) b v g
+  pub part-beside : (b v : ℕ) (g : ℕ → ℕ) → (b + v ≤ at) ⊎ (at + w ≤ b) → WordsAt l b v g → WordsAt (over l at (rowFrom 0 w f)) b v g
   part-beside b v g (inl k) p t a = part-out (b + t) (λ x y. omega arith) ∙ p t a
   part-beside b v g (inr k) p t a = part-out (b + t) (λ x y. omega arith) ∙ p t a
 
@@ -166,7 +166,7 @@ pub front-in : (l : List ℕ) (w : ℕ) (f : ℕ → ℕ) → w ≤ length l →
 front-in l w f h t k = rw zero-add at (part-in l 0 w f (rw zero-add h) t k)
 
 -- a loop that changes a part word by word: its start, and one turn
-pub part-same : (l : List ℕ) (at w : ℕ) (f : ℕ → ℕ) → at + w ≤ length l → Part l at w f → l ≡ over l at (rowFrom 0 w f)
+pub part-same : (l : List ℕ) (at w : ℕ) (f : ℕ → ℕ) → at + w ≤ length l → WordsAt l at w f → l ≡ over l at (rowFrom 0 w f)
 part-same l at w f h k = part-is l at w f h l refl k (λ i a. refl)
 
 pub part-set : (l : List ℕ) (at w : ℕ) (f g : ℕ → ℕ) (k : ℕ) → at + w ≤ length l → k < w → ((m : ℕ) → (m ≡ k → ⊥) → f m ≡ g m)

@@ -12,29 +12,29 @@ use Rattle.sets.proofs.Membership.{has-single, setOf-add, setOf-skip}
 use Rattle.rows.specs.Over.{over}
 use Rattle.meaning.specs.Lists.{rowFrom}
 use Rattle.meaning.specs.Sheet.{tOf, source}
-use Rattle.reaction.specs.Plan.{sourcesIn}
-use Rattle.planner.specs.Parts.{Part, fromOf}
+use Rattle.reaction.specs.Plan.{fromPart, sourcesIn}
+use Rattle.planner.specs.Parts.{WordsAt, fromOf}
 use Rattle.planner.proofs.PartLaws.{part-in, part-out, part-beside, part-same, part-set}
 
 -- of the transitions below t, those with source m
 abbrev pub fromBelow : List ℕ → ℕ → ℕ → ℕ
 fromBelow s t m = setOf t (λ u. has (single m) (source s u))
 
-pub from-start : (s l : List ℕ) → 544 ≤ length l → Part l 512 32 (λ _. 0) → l ≡ over l 512 (rowFrom 0 32 (fromBelow s 0))
+pub from-start : (s l : List ℕ) → fromPart + 32 ≤ length l → WordsAt l fromPart 32 (λ _. 0) → l ≡ over l fromPart (rowFrom 0 32 (fromBelow s 0))
 unfolding setOf
-from-start s l h k = part-same l 512 32 (fromBelow s 0) h k
+from-start s l h k = part-same l fromPart 32 (fromBelow s 0) h k
 
-pub from-turn : (s l : List ℕ) (t m : ℕ) → 544 ≤ length l → m ≡ source s t → m < 32
-    → let r = over l 512 (rowFrom 0 32 (fromBelow s t)) in set r (512 + m) (union (getD r (512 + m) 0) (single t)) ≡ over l 512 (rowFrom 0 32 (fromBelow s (t + 1)))
+pub from-turn : (s l : List ℕ) (t m : ℕ) → fromPart + 32 ≤ length l → m ≡ source s t → m < 32
+    → let r = over l fromPart (rowFrom 0 32 (fromBelow s t)) in set r (fromPart + m) (union (getD r (fromPart + m) 0) (single t)) ≡ over l fromPart (rowFrom 0 32 (fromBelow s (t + 1)))
 from-turn s l t m h e b =
     let here : has (single m) (source s t) ≡ true = has-single m (source s t) ∙ eq-eqb (source s t) m (sym e) in
-    let r = over l 512 (rowFrom 0 32 (fromBelow s t)) in
-    ap (λ (x : ℕ). set r (512 + m) (union x (single t))) (part-in l 512 32 (fromBelow s t) h m b)
-    ∙ ap (set r (512 + m)) (setOf-add t (λ u. has (single m) (source s u)) here)
-    ∙ part-set l 512 32 (fromBelow s t) (fromBelow s (t + 1)) m h b
+    let r = over l fromPart (rowFrom 0 32 (fromBelow s t)) in
+    ap (λ (x : ℕ). set r (fromPart + m) (union x (single t))) (part-in l fromPart 32 (fromBelow s t) h m b)
+    ∙ ap (set r (fromPart + m)) (setOf-add t (λ u. has (single m) (source s u)) here)
+    ∙ part-set l fromPart 32 (fromBelow s t) (fromBelow s (t + 1)) m h b
     (λ k x. setOf-skip t (λ u. has (single k) (source s u)) (has-single k (source s t) ∙ ne-eqb (source s t) k (λ y. x (omega arith))))
 
-pub from-done : (s l : List ℕ) (t : ℕ) → t ≡ tOf s → over l 512 (rowFrom 0 32 (fromBelow s t)) ≡ over l 512 (rowFrom 0 32 (fromOf s))
+pub from-done : (s l : List ℕ) (t : ℕ) → t ≡ tOf s → over l fromPart (rowFrom 0 32 (fromBelow s t)) ≡ over l fromPart (rowFrom 0 32 (fromOf s))
 unfolding sourcesIn
 from-done s l t e = rw e
 
@@ -46,8 +46,8 @@ changeOf s l sets t = sourcesIn s (getD l (sets + t) 0 % 2 ^ 32)
 
 module _ (s l : List ℕ) (sets at t : ℕ) {m : List ℕ} (e : m ≡ over l at (rowFrom 0 t (changeOf s l sets))) (h : at + t ≤ length l) where
   -- FROM stays
-  pub change-from : at + t ≤ 512 → Part l 512 32 (fromOf s) → Part m 512 32 (fromOf s)
-  change-from k p = rw e (part-beside l at t (changeOf s l sets) h 512 32 (fromOf s) (inr k) p)
+  pub change-from : at + t ≤ fromPart → WordsAt l fromPart 32 (fromOf s) → WordsAt m fromPart 32 (fromOf s)
+  change-from k p = rw e (part-beside l at t (changeOf s l sets) h fromPart 32 (fromOf s) (inr k) p)
 
   pub change-word : {x r : ℕ} → sets + t < at → x ≡ getD m (sets + t) 0 % 2 ^ 32 → r ≡ sourcesIn s x → r ≡ changeOf s l sets t
   change-word k a b =

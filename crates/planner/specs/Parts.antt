@@ -5,23 +5,19 @@ use mathlib.Core.List.{List}
 use Prim.Native.Nat.{ℕ, _+_, _<_}
 use lib.Dec.{eqb}
 use lib.ListN.{getD}
-use Rattle.sets.specs.Sets.{has, single, setOf}
+use Rattle.sets.specs.Sets.{single, setOf}
 use Rattle.meaning.specs.Sheet.{tOf, meeting}
 use Rattle.meaning.specs.Reaction.{isDelay, delay}
-use Rattle.reaction.specs.Plan.{sourcesIn, timers, eventsOnly}
+use Rattle.reaction.specs.Plan.{sourcesIn, eventsOnly}
 
 -- the w words of a list from a place on are f 0, f 1, ..
-abbrev pub Part : List ℕ → ℕ → ℕ → (ℕ → ℕ) → Type 0
-Part l at w f = (t : ℕ) → t < w → getD l (at + t) 0 ≡ f t
+abbrev pub WordsAt : List ℕ → ℕ → ℕ → (ℕ → ℕ) → Type 0
+WordsAt l at w f = (t : ℕ) → t < w → getD l (at + t) 0 ≡ f t
 
 module _ (s : List ℕ) where
   -- word m of FROM: the transitions with source m
   abbrev pub fromOf : ℕ → ℕ
   fromOf m = sourcesIn s (single m)
-
-  -- word t of DELAYS: the delay of a timer, else 0
-  abbrev pub delayOf : ℕ → ℕ
-  delayOf t = cond (has (timers s) t) (delay s t) 0
 
   -- an input set can trigger t by itself: t has delay 0, or event terms alone
   unfoldable pub isSure : ℕ → Bool

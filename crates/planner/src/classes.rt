@@ -7,38 +7,16 @@ ghost use Rattle.rows.specs.Over.{over};
 ghost use Rattle.meaning.specs.Lists.{rowFrom};
 ghost use Rattle.meaning.specs.Sheet.{tOf};
 ghost use Rattle.meaning.specs.Check.{sheetRefusal};
-ghost use Rattle.meaning.specs.Reaction.{isDelay, delay, isTimer};
-ghost use Rattle.reaction.specs.Plan.{timers, mixed};
-ghost use Rattle.planner.specs.Parts.{isSure, sure, delayOf};
+ghost use Rattle.reaction.specs.Plan.{delaysPart, planSize, timers, timerDelay, mixed};
+ghost use Rattle.planner.specs.Parts.{isSure, sure};
 use reaction::plan::DELAYS;
 use reaction::plan::Plan;
+use reaction::terms::delay;
 use reaction::terms::events_only;
+use reaction::terms::is_delay;
+use reaction::terms::is_timer;
 use sets::transitions;
-use sheet::words::term_kind;
-use sheet::words::term_value;
 use sheet::words::transition_count;
-
-// Transition t has a delay; the delay, then; and it is 1 or more.
-pub fn is_delay(sheet: &[u32], t: usize) -> bool
-    requires { ⌜ (sheetRefusal (now sheet) ≡ 0) × (t < tOf (now sheet)) ⌝ }
-    ensures { λ r. ⌜ r ≡ isDelay (now (sheet .entry)) t ⌝ }
-{
-    term_kind(sheet, t, 0) == 0
-}
-
-fn delay(sheet: &[u32], t: usize) -> u32
-    requires { ⌜ (sheetRefusal (now sheet) ≡ 0) × (t < tOf (now sheet)) ⌝ }
-    ensures { λ r. ⌜ r ≡ delay (now (sheet .entry)) t ⌝ }
-{
-    term_value(sheet, t, 0)
-}
-
-fn is_timer(sheet: &[u32], t: usize) -> bool
-    requires { ⌜ (sheetRefusal (now sheet) ≡ 0) × (t < tOf (now sheet)) ⌝ }
-    ensures { λ r. ⌜ r ≡ isTimer (now (sheet .entry)) t ⌝ }
-{
-    is_delay(sheet, t) && 0 < delay(sheet, t)
-}
 
 // Transition t has delay 0, or event terms alone.
 fn is_sure(sheet: &[u32], t: usize) -> bool
@@ -93,9 +71,9 @@ pub fn mixed(sheet: &[u32], timing: u64, certain: u64) -> u64
 }
 
 // The delay of a timer, else 0.
-fn delay_of(sheet: &[u32], timing: u64, t: usize) -> u64
+fn timer_delay(sheet: &[u32], timing: u64, t: usize) -> u64
     requires { ⌜ (sheetRefusal (now sheet) ≡ 0) × (timing ≡ timers (now sheet)) × (t < 64) ⌝ }
-    ensures { λ r. ⌜ r ≡ delayOf (now (sheet .entry)) t ⌝ }
+    ensures { λ r. ⌜ r ≡ timerDelay (now (sheet .entry)) t ⌝ }
 {
     if transitions::has(timing, t) {
         return delay(sheet, t) as u64;
@@ -105,12 +83,13 @@ fn delay_of(sheet: &[u32], timing: u64, t: usize) -> u64
 
 // DELAYS.
 pub fn put_delays(sheet: &[u32], timing: u64, plan: &mut Plan)
-    requires { ⌜ (sheetRefusal (now sheet) ≡ 0) × (length (now plan) ≡ 547) × (timing ≡ timers (now sheet)) ⌝ }
-    ensures { λ _. ⌜ now (plan .exit) ≡ over (now (plan .entry)) 384 (rowFrom 0 64 (delayOf (now (sheet .entry)))) ⌝ }
+    requires { ⌜ (sheetRefusal (now sheet) ≡ 0) × (length (now plan) ≡ planSize) × (timing ≡ timers (now sheet)) ⌝ }
+    ensures { λ _. ⌜ now (plan .exit)
+        ≡ over (now (plan .entry)) delaysPart (rowFrom 0 64 (timerDelay (now (sheet .entry)))) ⌝ }
 {
     let mut t = 0;
     while t < 64 {
-        plan[DELAYS + t] = delay_of(sheet, timing, t);
+        plan[DELAYS + t] = timer_delay(sheet, timing, t);
         t += 1;
     }
 }

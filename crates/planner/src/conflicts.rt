@@ -11,8 +11,8 @@ ghost use Rattle.meaning.specs.Sheet.{tOf};
 ghost use Rattle.meaning.specs.Check.{sheetRefusal};
 ghost use Rattle.meaning.specs.Reaction.{conflict};
 ghost use Rattle.hierarchy.specs.Inside.{Insides};
-ghost use Rattle.reaction.specs.Plan.{conflictsOf, yieldersOf};
-ghost use Rattle.planner.specs.Parts.{Part, fromOf, Meetings};
+ghost use Rattle.reaction.specs.Plan.{conflictsPart, yieldersPart, fromPart, planSize, conflictsOf, yieldersOf};
+ghost use Rattle.planner.specs.Parts.{WordsAt, fromOf, Meetings};
 use reaction::plan::CONFLICTS;
 use reaction::plan::Plan;
 use reaction::plan::YIELDERS;
@@ -48,7 +48,11 @@ fn related(inside: &[u32; 32], p: usize, q: usize) -> bool
 
 // Transitions t and u are two, in conflict.
 fn is_conflict(sheet: &[u32], inside: &[u32; 32], meets: &[usize; 64], t: usize, u: usize) -> bool
-    requires { ⌜ (sheetRefusal (now sheet) ≡ 0) × Insides (now sheet) (now inside) × Meetings (now sheet) (now meets) × (t < tOf (now sheet)) × (u < tOf (now sheet)) ⌝ }
+    requires { ⌜ (sheetRefusal (now sheet) ≡ 0)
+        × Insides (now sheet) (now inside)
+        × Meetings (now sheet) (now meets)
+        × (t < tOf (now sheet))
+        × (u < tOf (now sheet)) ⌝ }
     ensures { λ r. ⌜ r ≡ (not (eqb t u) && conflict (now (sheet .entry)) t u) ⌝ }
 {
     t != u && related(inside, meets[t], meets[u])
@@ -56,7 +60,10 @@ fn is_conflict(sheet: &[u32], inside: &[u32; 32], meets: &[usize; 64], t: usize,
 
 // The other transitions in conflict with t.
 fn conflicts_of(sheet: &[u32], inside: &[u32; 32], meets: &[usize; 64], t: usize) -> u64
-    requires { ⌜ (sheetRefusal (now sheet) ≡ 0) × Insides (now sheet) (now inside) × Meetings (now sheet) (now meets) × (t < tOf (now sheet)) ⌝ }
+    requires { ⌜ (sheetRefusal (now sheet) ≡ 0)
+        × Insides (now sheet) (now inside)
+        × Meetings (now sheet) (now meets)
+        × (t < tOf (now sheet)) ⌝ }
     ensures { λ r. ⌜ r ≡ conflictsOf (now (sheet .entry)) t ⌝ }
 {
     let count = transition_count(sheet);
@@ -73,8 +80,10 @@ fn conflicts_of(sheet: &[u32], inside: &[u32; 32], meets: &[usize; 64], t: usize
 
 // CONFLICTS.
 pub fn put_conflicts(sheet: &[u32], inside: &[u32; 32], plan: &mut Plan)
-    requires { ⌜ (sheetRefusal (now sheet) ≡ 0) × (length (now plan) ≡ 547) × Insides (now sheet) (now inside) ⌝ }
-    ensures { λ _. ⌜ now (plan .exit) ≡ over (now (plan .entry)) 128 (rowFrom 0 (tOf (now (sheet .entry))) (conflictsOf (now (sheet .entry)))) ⌝ }
+    requires { ⌜ (sheetRefusal (now sheet) ≡ 0) × (length (now plan) ≡ planSize) × Insides (now sheet) (now inside) ⌝ }
+    ensures { λ _. ⌜ now (plan .exit)
+        ≡ over (now (plan .entry)) conflictsPart
+        (rowFrom 0 (tOf (now (sheet .entry))) (conflictsOf (now (sheet .entry)))) ⌝ }
 {
     let count = transition_count(sheet);
     let meets = meetings(sheet);
@@ -87,8 +96,14 @@ pub fn put_conflicts(sheet: &[u32], inside: &[u32; 32], plan: &mut Plan)
 
 // YIELDERS: of those in conflict with t, the ones with a source strictly within t's.
 pub fn put_yielders(sheet: &[u32], inside: &[u32; 32], plan: &mut Plan)
-    requires { ⌜ (sheetRefusal (now sheet) ≡ 0) × (length (now plan) ≡ 547) × Insides (now sheet) (now inside) × Part (now plan) 512 32 (fromOf (now sheet)) × Part (now plan) 128 (tOf (now sheet)) (conflictsOf (now sheet)) ⌝ }
-    ensures { λ _. ⌜ now (plan .exit) ≡ over (now (plan .entry)) 192 (rowFrom 0 (tOf (now (sheet .entry))) (yieldersOf (now (sheet .entry)))) ⌝ }
+    requires { ⌜ (sheetRefusal (now sheet) ≡ 0)
+        × (length (now plan) ≡ planSize)
+        × Insides (now sheet) (now inside)
+        × WordsAt (now plan) fromPart 32 (fromOf (now sheet))
+        × WordsAt (now plan) conflictsPart (tOf (now sheet)) (conflictsOf (now sheet)) ⌝ }
+    ensures { λ _. ⌜ now (plan .exit)
+        ≡ over (now (plan .entry)) yieldersPart
+        (rowFrom 0 (tOf (now (sheet .entry))) (yieldersOf (now (sheet .entry)))) ⌝ }
 {
     let count = transition_count(sheet);
     let mut t = 0;

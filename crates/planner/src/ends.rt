@@ -7,6 +7,7 @@ ghost use Rattle.meaning.specs.Sheet.{tOf};
 ghost use Rattle.meaning.specs.Check.{sheetRefusal};
 ghost use Rattle.meaning.specs.Hierarchy.{exits, enters};
 ghost use Rattle.hierarchy.specs.Inside.{Insides};
+ghost use Rattle.reaction.specs.Plan.{exitsPart, entersPart, planSize};
 use hierarchy::transition::entered_by;
 use hierarchy::transition::exited_by;
 use reaction::plan::ENTERS;
@@ -16,8 +17,11 @@ use sheet::words::transition_count;
 
 // EXITS and ENTERS.
 pub fn put_ends(sheet: &[u32], inside: &[u32; 32], plan: &mut Plan)
-    requires { ⌜ (sheetRefusal (now sheet) ≡ 0) × (length (now plan) ≡ 547) × Insides (now sheet) (now inside) ⌝ }
-    ensures { λ _. ⌜ now (plan .exit) ≡ over (over (now (plan .entry)) 0 (rowFrom 0 (tOf (now (sheet .entry))) (exits (now (sheet .entry))))) 64 (rowFrom 0 (tOf (now (sheet .entry))) (enters (now (sheet .entry)))) ⌝ }
+    requires { ⌜ (sheetRefusal (now sheet) ≡ 0) × (length (now plan) ≡ planSize) × Insides (now sheet) (now inside) ⌝ }
+    ensures { λ _. ⌜ now (plan .exit)
+        ≡ over
+        (over (now (plan .entry)) exitsPart (rowFrom 0 (tOf (now (sheet .entry))) (exits (now (sheet .entry)))))
+        entersPart (rowFrom 0 (tOf (now (sheet .entry))) (enters (now (sheet .entry)))) ⌝ }
 {
     let count = transition_count(sheet);
     let mut t = 0;

@@ -9,14 +9,14 @@ ghost use Rattle.meaning.specs.Lists.{rowFrom};
 ghost use Rattle.meaning.specs.Sheet.{kOf, tOf};
 ghost use Rattle.meaning.specs.Check.{sheetRefusal};
 ghost use Rattle.meaning.specs.Reaction.{isDelay};
-ghost use Rattle.reaction.specs.Plan.{hitsOf};
+ghost use Rattle.reaction.specs.Plan.{hitsPart, planSize, hitsOf};
 ghost use Rattle.reaction.specs.Facts.{alternativeBy};
 ghost use Rattle.planner.specs.Parts.{sure};
-use super::classes::is_delay;
 use reaction::plan::HITS;
 use reaction::plan::Plan;
 use reaction::terms::alternative;
 use reaction::terms::facts;
+use reaction::terms::is_delay;
 use sets::transitions;
 use sheet::words::event_count;
 use sheet::words::wide;
@@ -24,7 +24,8 @@ use sheet::words::wide;
 // Transition t has a delay, or its terms hold.
 fn is_hit(sheet: &[u32], f: &[u64; 8], t: usize) -> bool
     requires { ⌜ (sheetRefusal (now sheet) ≡ 0) × (t < tOf (now sheet)) ⌝ }
-    ensures { λ r. ⌜ r ≡ (isDelay (now (sheet .entry)) t || ltb 0 (alternativeBy (now (sheet .entry)) (now (f .entry)) t)) ⌝ }
+    ensures { λ r. ⌜ r ≡ (isDelay (now (sheet .entry)) t
+        || ltb 0 (alternativeBy (now (sheet .entry)) (now (f .entry)) t)) ⌝ }
 {
     is_delay(sheet, t) || 0 < alternative(sheet, t, f)
 }
@@ -49,8 +50,9 @@ fn hits_of(sheet: &[u32], certain: u64, i: u32) -> u64
 
 // HITS.
 pub fn put_hits(sheet: &[u32], certain: u64, plan: &mut Plan)
-    requires { ⌜ (sheetRefusal (now sheet) ≡ 0) × (length (now plan) ≡ 547) × (certain ≡ sure (now sheet)) ⌝ }
-    ensures { λ _. ⌜ now (plan .exit) ≡ over (now (plan .entry)) 448 (rowFrom 0 (2 ^ kOf (now (sheet .entry))) (hitsOf (now (sheet .entry)))) ⌝ }
+    requires { ⌜ (sheetRefusal (now sheet) ≡ 0) × (length (now plan) ≡ planSize) × (certain ≡ sure (now sheet)) ⌝ }
+    ensures { λ _. ⌜ now (plan .exit)
+        ≡ over (now (plan .entry)) hitsPart (rowFrom 0 (2 ^ kOf (now (sheet .entry))) (hitsOf (now (sheet .entry)))) ⌝ }
 {
     let count = 1u32 << event_count(sheet);
     let mut i = 0;

@@ -1,24 +1,28 @@
--- The transitions whose source is in a mode set, by the words of the plan, and the timers among them. Assumes nothing.
+-- The transitions whose source is in a mode set, by the words of the plan, and the timers among them; an array
+-- filled word by word. Assumes nothing.
 use mathlib.Core.Path.{_≡_, sym, ap₂, _∙_, subst}
 use mathlib.Core.Bool.{Bool, _&&_, and-comm}
 use mathlib.Core.List.{List}
 use Prim.Native.Nat.{ℕ, _+_, _%_, _^_, _<_}
 use native.Mathlib.Nat.{lt-of-le-of-lt, lt-of-lt-of-le, mod-eq-of-lt, pow-le-pow-right}
+use native.Mathlib.Decide.{ℕ-discrete}
 use native.Mathlib.Omega.{arith}
 use lib.Dec.{T, eqb, eqb→eq, eqb-refl}
-use lib.ListN.{getD}
+use lib.ListN.{length, getD, set}
+use lib.Seq.{getD-set-same, getD-set-other}
 use Rattle.sets.specs.Sets.{has, union, meet, single, members, someIn}
 use Rattle.sets.proofs.Tests.{bool-ext}
 use Rattle.sets.proofs.Facts.{has-lt, someIn-e, someIn-i}
 use Rattle.sets.proofs.Membership.{has-meet, has-single, has-setOf, setOf-lt, setOf-ext, setOf-same, meet-le}
 use Rattle.sets.proofs.Members.{fold}
 use Rattle.sets.proofs.Widths.{union-over}
+use Rattle.meaning.specs.Lists.{rowFrom}
 use Rattle.meaning.specs.Sheet.{nOf, tOf, source}
-use Rattle.meaning.specs.Check.{sheetRefusal}
 use Rattle.meaning.specs.Hierarchy.{completedIn, complete}
 use Rattle.meaning.specs.Reaction.{isTimer, running}
+use Rattle.meaning.proofs.ListLaws.{rowFrom-ext, rowFrom-getD}
 use Rattle.meaning.proofs.SheetLaws.{sound, n-le}
-use Rattle.reaction.specs.Plan.{FromPart, Planned, sourcesIn, timers}
+use Rattle.reaction.specs.Plan.{fromPart, startWord, FromPlanned, Planned, sourcesIn, timers}
 
 module _ (s : List ℕ) where
   pub sourcesIn-lt : (x : ℕ) → sourcesIn s x < 2 ^ tOf s
@@ -57,16 +61,29 @@ module _ (s : List ℕ) where
           someIn-i 32 x p m (has-lt 32 x m b k) k (subst T (sym (from m)) (eqb-refl m))
 
   -- the union of the words of the members of x
-  pub from-over : (plan : List ℕ) → FromPart s plan → (x : ℕ) → x < 2 ^ 32 → fold (λ a m. union a (getD plan (512 + m) 0)) 0 (members 32 x) ≡ sourcesIn s x
+  pub from-over : (plan : List ℕ) → FromPlanned s plan → (x : ℕ) → x < 2 ^ 32 → fold (λ a m. union a (getD plan (fromPart + m) 0)) 0 (members 32 x) ≡ sourcesIn s x
   unfolding sourcesIn
   from-over plan h x b =
-      union-over 32 32 (tOf s) x (λ m. getD plan (512 + m) 0) (λ m. sourcesIn s (single m)) b b h (λ m. sourcesIn-lt (single m))
+      union-over 32 32 (tOf s) x (λ m. getD plan (fromPart + m) 0) (λ m. sourcesIn s (single m)) b b h (λ m. sourcesIn-lt (single m))
       ∙ setOf-same (tOf s) (λ t. someIn 32 x (λ m. has (sourcesIn s (single m)) t)) (λ t. has x (source s t)) (λ t l. some-from x t b l)
 
 -- the word of the root completed is a mode set
-pub start-word : (s plan : List ℕ) → sheetRefusal s ≡ 0 → Planned s plan → getD plan 546 0 % 2 ^ 32 ≡ complete s (single 0)
+pub start-word : (s plan : List ℕ) → Planned s plan → getD plan startWord 0 % 2 ^ 32 ≡ complete s (single 0)
 unfolding complete
-start-word s plan h p =
+start-word s plan p =
     rw (p .startAt)
     (mod-eq-of-lt
-    (lt-of-lt-of-le (setOf-lt (nOf s) (λ m. completedIn s m (single 0) m)) (pow-le-pow-right {n = 2} (omega arith) (n-le s (sound s h)))))
+    (lt-of-lt-of-le (setOf-lt (nOf s) (λ m. completedIn s m (single 0) m)) (pow-le-pow-right {n = 2} (omega arith) (n-le s (sound s (p .passes))))))
+
+-- an array filled word by word with f 0, f 1, ..: one turn, and its end
+module _ (f : ℕ → ℕ) where
+  pub row-turn : (r : List ℕ) (t : ℕ) {v : ℕ} → t < length r → ((u : ℕ) → u < t → getD r u 0 ≡ f u) → v ≡ f t
+      → (u : ℕ) → u < t + 1 → getD (set r t v) u 0 ≡ f u
+  row-turn r t {v} l h e u k = go (ℕ-discrete u t)
+    where
+      go : Dec (u ≡ t) → getD (set r t v) u 0 ≡ f u
+      go (yes i) = rw i (getD-set-same r t v 0 l ∙ e)
+      go (no i) = getD-set-other r t u v 0 i ∙ h u (omega arith)
+
+  pub row-done : (r : List ℕ) (w : ℕ) → length r ≡ w → ((u : ℕ) → u < w → getD r u 0 ≡ f u) → r ≡ rowFrom 0 w f
+  row-done r w n h = rw n at (rowFrom-getD r 0) ∙ rowFrom-ext (λ u. getD r u 0) f 0 w (λ u a b. h u (omega arith))

@@ -26,7 +26,7 @@ use Rattle.meaning.specs.Reaction.{TickSets, isDelay, delay, isTimer, alternati
 use Rattle.meaning.specs.Tick.{Tick, begin, chosen, roundsFrom, tick}
 use Rattle.meaning.proofs.SheetLaws.{Sound, n-le}
 use Rattle.reaction.proofs.PlanLaws.{sourcesIn-lt, has-sourcesIn}
-use Rattle.reaction.specs.Plan.{sourcesIn, conflictsOf, yieldersOf, Planned}
+use Rattle.reaction.specs.Plan.{exitsPart, entersPart, conflictsPart, losesPart, gainsPart, sourcesIn, conflictsOf, yieldersOf, Planned}
 use Rattle.reaction.specs.Rounds.{setsOf, tickOf, Derived, exitsOf, MovesOf, addMove, afterMoves, begun, Before}
 use Rattle.reaction.specs.declared.tick.Sets.{Sets}
 use Rattle.reaction.specs.declared.tick.Ticked.{Ticked}
@@ -140,15 +140,15 @@ module _ (s : List ℕ) where
     unfolding exitsOf entering
     moves-all =
         record {
-          exits = moved (nOf s) 0 (λ m. m .exits) (exits s) (λ m t. refl) refl (pl .exitsAt) exits-small;
-          enters = moved (nOf s) 64 (λ m. m .enters) (enters s) (λ m t. refl) refl (pl .entersAt) enters-small;
+          exits = moved (nOf s) exitsPart (λ m. m .exits) (exits s) (λ m t. refl) refl (pl .exitsAt) exits-small;
+          enters = moved (nOf s) entersPart (λ m. m .enters) (enters s) (λ m t. refl) refl (pl .entersAt) enters-small;
           loses =
-              moved (tOf s) 256 (λ m. m .loses) (λ t. sourcesIn s (exits s t)) (λ m t. refl) refl (pl .losesAt) (λ t. sourcesIn-lt s (exits s t))
+              moved (tOf s) losesPart (λ m. m .loses) (λ t. sourcesIn s (exits s t)) (λ m t. refl) refl (pl .losesAt) (λ t. sourcesIn-lt s (exits s t))
               ∙ sources-over (nOf s) es (exits s) exits-small;
           gains =
-              moved (tOf s) 320 (λ m. m .gains) (λ t. sourcesIn s (enters s t)) (λ m t. refl) refl (pl .gainsAt) (λ t. sourcesIn-lt s (enters s t))
+              moved (tOf s) gainsPart (λ m. m .gains) (λ t. sourcesIn s (enters s t)) (λ m t. refl) refl (pl .gainsAt) (λ t. sourcesIn-lt s (enters s t))
               ∙ sources-over (nOf s) es (enters s) enters-small;
-          clashes = moved (tOf s) 128 (λ m. m .clashes) (conflictsOf s) (λ m t. refl) refl (pl .conflictsAt) conflicts-small;
+          clashes = moved (tOf s) conflictsPart (λ m. m .clashes) (conflictsOf s) (λ m t. refl) refl (pl .conflictsAt) conflicts-small;
         }
 
   -- ---- 8 and 9

@@ -7,8 +7,64 @@ use lib.Dec.{eqb, ltb}
 use lib.ListN.{getD}
 use Rattle.sets.specs.Sets.{has, single, setOf, every}
 use Rattle.meaning.specs.Sheet.{kOf, tOf, source, termCount, termKind}
+use Rattle.meaning.specs.Check.{sheetRefusal}
 use Rattle.meaning.specs.Hierarchy.{complete, exits, enters}
 use Rattle.meaning.specs.Reaction.{TickSets, isDelay, delay, isTimer, alternative, conflict, givesWay}
+
+-- ---- where the parts of the plan begin: 64 words each, one for a transition or an input set, but 32 from `fromPart` on, one for a
+-- mode; then three words and the end
+
+-- the modes that a transition exits if they are active
+abbrev pub exitsPart : ℕ
+exitsPart = 0
+
+-- the modes that a transition enters
+abbrev pub entersPart : ℕ
+entersPart = 64
+
+-- the other transitions in conflict with a transition
+abbrev pub conflictsPart : ℕ
+conflictsPart = 128
+
+-- the transitions that give way to a transition
+abbrev pub yieldersPart : ℕ
+yieldersPart = 192
+
+-- the transitions whose source a transition exits
+abbrev pub losesPart : ℕ
+losesPart = 256
+
+-- the transitions whose source a transition enters
+abbrev pub gainsPart : ℕ
+gainsPart = 320
+
+-- the delay of a timer, 0 of another transition
+abbrev pub delaysPart : ℕ
+delaysPart = 384
+
+-- the transitions that an input set triggers by itself
+abbrev pub hitsPart : ℕ
+hitsPart = 448
+
+-- the transitions whose source is a mode
+abbrev pub fromPart : ℕ
+fromPart = 512
+
+-- the timers
+abbrev pub timersWord : ℕ
+timersWord = 544
+
+-- the transitions whose terms are judged in each round
+abbrev pub mixedWord : ℕ
+mixedWord = 545
+
+-- the root, completed
+abbrev pub startWord : ℕ
+startWord = 546
+
+-- how many words a plan is
+abbrev pub planSize : ℕ
+planSize = 547
 
 -- the sets of a tick in which nothing has happened
 abbrev pub noSets : TickSets
@@ -34,6 +90,10 @@ module _ (s : List ℕ) where
   unfoldable pub timers : ℕ
   timers = setOf (tOf s) (isTimer s)
 
+  -- the delay of a timer, 0 of another transition
+  abbrev pub timerDelay : ℕ → ℕ
+  timerDelay t = cond (has timers t) (delay s t) 0
+
   unfoldable pub eventsOnly : ℕ → Bool
   eventsOnly t = every (termCount s t) (λ j. isEventKind (termKind s t j))
 
@@ -47,21 +107,22 @@ module _ (s : List ℕ) where
   unfoldable pub mixed : ℕ
   mixed = setOf (tOf s) (λ t. not (isDelay s t) && not (eventsOnly t))
 
-  -- the part FROM of an array of words: the transitions with source m
-  abbrev pub FromPart : List ℕ → Type 0
-  FromPart plan = (m : ℕ) → m < 32 → getD plan (512 + m) 0 ≡ sourcesIn (single m)
+  -- the part FROM of an array of words is right: the transitions with source m
+  abbrev pub FromPlanned : List ℕ → Type 0
+  FromPlanned plan = (m : ℕ) → m < 32 → getD plan (fromPart + m) 0 ≡ sourcesIn (single m)
 
-  -- an array of words is the plan of the sheet
+  -- the sheet passes 1 to 6, and an array of words is its plan
   pub record Planned (plan : List ℕ) : Type 0 where
-    pub exitsAt : (t : ℕ) → t < tOf s → getD plan (0 + t) 0 ≡ exits s t
-    pub entersAt : (t : ℕ) → t < tOf s → getD plan (64 + t) 0 ≡ enters s t
-    pub conflictsAt : (t : ℕ) → t < tOf s → getD plan (128 + t) 0 ≡ conflictsOf t
-    pub yieldersAt : (t : ℕ) → t < tOf s → getD plan (192 + t) 0 ≡ yieldersOf t
-    pub losesAt : (t : ℕ) → t < tOf s → getD plan (256 + t) 0 ≡ sourcesIn (exits s t)
-    pub gainsAt : (t : ℕ) → t < tOf s → getD plan (320 + t) 0 ≡ sourcesIn (enters s t)
-    pub delaysAt : (t : ℕ) → t < 64 → getD plan (384 + t) 0 ≡ cond (has timers t) (delay s t) 0
-    pub hitsAt : (i : ℕ) → i < 2 ^ kOf s → getD plan (448 + i) 0 ≡ hitsOf i
-    pub fromAt : FromPart plan
-    pub timingAt : getD plan 544 0 ≡ timers
-    pub judgedAt : getD plan 545 0 ≡ mixed
-    pub startAt : getD plan 546 0 ≡ complete s (single 0)
+    pub passes : sheetRefusal s ≡ 0
+    pub exitsAt : (t : ℕ) → t < tOf s → getD plan (exitsPart + t) 0 ≡ exits s t
+    pub entersAt : (t : ℕ) → t < tOf s → getD plan (entersPart + t) 0 ≡ enters s t
+    pub conflictsAt : (t : ℕ) → t < tOf s → getD plan (conflictsPart + t) 0 ≡ conflictsOf t
+    pub yieldersAt : (t : ℕ) → t < tOf s → getD plan (yieldersPart + t) 0 ≡ yieldersOf t
+    pub losesAt : (t : ℕ) → t < tOf s → getD plan (losesPart + t) 0 ≡ sourcesIn (exits s t)
+    pub gainsAt : (t : ℕ) → t < tOf s → getD plan (gainsPart + t) 0 ≡ sourcesIn (enters s t)
+    pub delaysAt : (t : ℕ) → t < 64 → getD plan (delaysPart + t) 0 ≡ timerDelay t
+    pub hitsAt : (i : ℕ) → i < 2 ^ kOf s → getD plan (hitsPart + i) 0 ≡ hitsOf i
+    pub fromAt : FromPlanned plan
+    pub timingAt : getD plan timersWord 0 ≡ timers
+    pub judgedAt : getD plan mixedWord 0 ≡ mixed
+    pub startAt : getD plan startWord 0 ≡ complete s (single 0)

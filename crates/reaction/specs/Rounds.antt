@@ -10,7 +10,7 @@ use Rattle.meaning.specs.Refusal.{numberOf}
 use Rattle.meaning.specs.Hierarchy.{exits}
 use Rattle.meaning.specs.Reaction.{TickSets, isTimer, isDue, entering}
 use Rattle.meaning.specs.Tick.{Tick}
-use Rattle.reaction.specs.Plan.{sourcesIn, conflictsOf}
+use Rattle.reaction.specs.Plan.{exitsPart, entersPart, conflictsPart, losesPart, gainsPart, sourcesIn, conflictsOf}
 use Rattle.reaction.specs.declared.tick.Sets.{Sets}
 use Rattle.reaction.specs.declared.tick.Ticked.{Ticked}
 use Rattle.reaction.specs.declared.tick.Moves.{Moves}
@@ -44,11 +44,11 @@ pub record MovesOf (s : List ℕ) (es : ℕ) (m : Moves) : Type 0 where
 abbrev pub addMove : List ℕ → Moves → ℕ → Moves
 addMove plan m t =
     record {
-      exits = union (m .exits) (getD plan (0 + t) 0);
-      enters = union (m .enters) (getD plan (64 + t) 0);
-      loses = union (m .loses) (getD plan (256 + t) 0);
-      gains = union (m .gains) (getD plan (320 + t) 0);
-      clashes = union (m .clashes) (getD plan (128 + t) 0);
+      exits = union (m .exits) (getD plan (exitsPart + t) 0);
+      enters = union (m .enters) (getD plan (entersPart + t) 0);
+      loses = union (m .loses) (getD plan (losesPart + t) 0);
+      gains = union (m .gains) (getD plan (gainsPart + t) 0);
+      clashes = union (m .clashes) (getD plan (conflictsPart + t) 0);
     }
 
 -- the sets after a round that takes es, by the words of its moves

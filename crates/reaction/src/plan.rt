@@ -2,8 +2,9 @@
 ghost use mathlib.Core.Path.{_≡_};
 ghost use Prim.Native.Nat.{_%_, _^_, _<_};
 ghost use lib.ListN.{getD};
+ghost use Rattle.meaning.specs.Lists.{rowFrom};
 ghost use Rattle.meaning.specs.Reaction.{running};
-ghost use Rattle.reaction.specs.Plan.{FromPart, Planned, sourcesIn};
+ghost use Rattle.reaction.specs.Plan.{planSize, FromPlanned, Planned, sourcesIn, timerDelay};
 use sets::modes;
 use sets::transitions;
 
@@ -38,7 +39,7 @@ pub type Plan = [u64; SIZE];
 
 // A word of the plan as a mode set.
 pub fn mode_set(plan: &Plan, at: usize) -> u32
-    requires { ⌜ at < 547 ⌝ }
+    requires { ⌜ at < planSize ⌝ }
     ensures { λ r. ⌜ r ≡ getD (now (plan .entry)) at 0 % 2 ^ 32 ⌝ }
 {
     transitions::low(plan[at])
@@ -46,7 +47,7 @@ pub fn mode_set(plan: &Plan, at: usize) -> u32
 
 // The transitions whose source is in a mode set.
 pub fn from_set(sheet: &[u32], plan: &Plan, set: u32) -> u64
-    requires { ⌜ FromPart (now sheet) (now plan) ⌝ }
+    requires { ⌜ FromPlanned (now sheet) (now plan) ⌝ }
     ensures { λ r. ⌜ r ≡ sourcesIn (now (sheet .entry)) set ⌝ }
 {
     let mut r = 0u64;
@@ -54,6 +55,20 @@ pub fn from_set(sheet: &[u32], plan: &Plan, set: u32) -> u64
     while rest != 0 {
         r |= plan[FROM + modes::lowest(rest)];
         rest = modes::without_lowest(rest);
+    }
+    r
+}
+
+// The delays of the timers, 0 for other transitions.
+pub fn timer_delays(sheet: &[u32], plan: &Plan) -> [u64; 64]
+    requires { ⌜ Planned (now sheet) (now plan) ⌝ }
+    ensures { λ r. ⌜ r ≡ rowFrom 0 64 (timerDelay (now (sheet .entry))) ⌝ }
+{
+    let mut r = [0u64; 64];
+    let mut t = 0;
+    while t < 64 {
+        r[t] = plan[DELAYS + t];
+        t += 1;
     }
     r
 }

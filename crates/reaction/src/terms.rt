@@ -1,17 +1,42 @@
-// The test of a transition's terms.
+// A transition's delay, and the test of its terms.
 ghost use mathlib.Core.Path.{_≡_};
 ghost use mathlib.Core.Bool.{false};
 ghost use mathlib.Core.List.{[], _∷_};
 ghost use Prim.Native.Nat.{_-_, _^_, _<_};
 ghost use Rattle.meaning.specs.Sheet.{tOf};
 ghost use Rattle.meaning.specs.Check.{sheetRefusal};
-ghost use Rattle.meaning.specs.Reaction.{isDelay};
+ghost use Rattle.meaning.specs.Reaction.{isDelay, delay, isTimer};
 ghost use Rattle.reaction.specs.Plan.{eventsOnly};
 ghost use Rattle.reaction.specs.Facts.{holdsBy, alternativeBy};
 use sheet::words::offset;
 use sheet::words::term_count;
 use sheet::words::term_kind;
+use sheet::words::term_value;
 use sheet::words::wide;
+
+// Transition t has a delay.
+pub fn is_delay(sheet: &[u32], t: usize) -> bool
+    requires { ⌜ (sheetRefusal (now sheet) ≡ 0) × (t < tOf (now sheet)) ⌝ }
+    ensures { λ r. ⌜ r ≡ isDelay (now (sheet .entry)) t ⌝ }
+{
+    term_kind(sheet, t, 0) == 0
+}
+
+// The delay of a transition that has one.
+pub fn delay(sheet: &[u32], t: usize) -> u32
+    requires { ⌜ (sheetRefusal (now sheet) ≡ 0) × (t < tOf (now sheet)) ⌝ }
+    ensures { λ r. ⌜ r ≡ delay (now (sheet .entry)) t ⌝ }
+{
+    term_value(sheet, t, 0)
+}
+
+// Transition t is a timer: it has a delay of 1 or more.
+pub fn is_timer(sheet: &[u32], t: usize) -> bool
+    requires { ⌜ (sheetRefusal (now sheet) ≡ 0) × (t < tOf (now sheet)) ⌝ }
+    ensures { λ r. ⌜ r ≡ isTimer (now (sheet .entry)) t ⌝ }
+{
+    is_delay(sheet, t) && 0 < delay(sheet, t)
+}
 
 // What a term of each kind is judged on: the tick's input, what is not in it, and the four sets as the round began, each at
 // the number of the kind.

@@ -4,10 +4,11 @@ ghost use mathlib.Core.Bool.{true, false};
 ghost use Prim.Native.Nat.{ℕ, suc, _^_, _<_};
 ghost use Rattle.sets.specs.Sets.{those, setOf, someIn, has};
 ghost use lib.Dec.{ltb};
+ghost use Rattle.rows.specs.Over.{fiveOf};
 ghost use Rattle.meaning.specs.Sheet.{kOf, tOf};
 ghost use Rattle.meaning.specs.Check.{sheetRefusal};
 ghost use Rattle.meaning.specs.Reaction.{isDelay, triggered, eligible};
-ghost use Rattle.meaning.specs.Tick.{begin, roundsFrom, tick};
+ghost use Rattle.meaning.specs.Tick.{begin, roundsFrom, tick, fiveWords};
 ghost use Rattle.reaction.specs.Plan.{Planned, sourcesIn, yieldersOf};
 ghost use Rattle.reaction.specs.Facts.{alternativeBy};
 ghost use Rattle.reaction.specs.Rounds.{setsOf, tickOf, Derived, MovesOf, addMove, afterMoves, begun, Before};
@@ -26,6 +27,7 @@ use super::plan::mode_set;
 use super::terms::alternative;
 use super::terms::facts;
 use meaning::refusal::Refusal;
+use rows::Five;
 use sets::modes;
 use sets::transitions;
 use sheet::words::transition_count;
@@ -62,7 +64,8 @@ pub struct Moves {
 
 // The transitions of a set whose terms hold.
 fn judged(sheet: &[u32], set: u64, f: &[u64; 8]) -> u64
-    requires { ⌜ (sheetRefusal (now sheet) ≡ 0) × ((t : ℕ) → has set t ≡ true → (t < tOf (now sheet)) × (isDelay (now sheet) t ≡ false)) ⌝ }
+    requires { ⌜ (sheetRefusal (now sheet) ≡ 0)
+        × ((t : ℕ) → has set t ≡ true → (t < tOf (now sheet)) × (isDelay (now sheet) t ≡ false)) ⌝ }
     ensures { λ r. ⌜ r ≡ those 64 set (λ t. ltb 0 (alternativeBy (now (sheet .entry)) (now (f .entry)) t)) ⌝ }
 {
     let mut r = 0u64;
@@ -79,7 +82,7 @@ fn judged(sheet: &[u32], set: u64, f: &[u64; 8]) -> u64
 
 // The triggered transitions.
 fn triggered(sheet: &[u32], plan: &Plan, z: Sets, input: u32) -> u64
-    requires { ⌜ (sheetRefusal (now sheet) ≡ 0) × Planned (now sheet) (now plan) × Derived (now sheet) z × (input < 2 ^ kOf (now sheet)) ⌝ }
+    requires { ⌜ Planned (now sheet) (now plan) × Derived (now sheet) z × (input < 2 ^ kOf (now sheet)) ⌝ }
     ensures { λ r. ⌜ r ≡ triggered (now (sheet .entry)) (z .due) input (setsOf z) ⌝ }
 {
     let sure = z.live & (z.due | plan[HITS + wide(input)]);
@@ -94,7 +97,8 @@ fn triggered(sheet: &[u32], plan: &Plan, z: Sets, input: u32) -> u64
 // The transitions that give way to one of a set.
 fn yielding(sheet: &[u32], plan: &Plan, ts: u64) -> u64
     requires { ⌜ Planned (now sheet) (now plan) × (ts < 2 ^ tOf (now sheet)) ⌝ }
-    ensures { λ r. ⌜ r ≡ setOf (tOf (now (sheet .entry))) (λ u. someIn (tOf (now (sheet .entry))) ts (λ t. has (yieldersOf (now (sheet .entry)) t) u)) ⌝ }
+    ensures { λ r. ⌜ r ≡ setOf (tOf (now (sheet .entry)))
+        (λ u. someIn (tOf (now (sheet .entry))) ts (λ t. has (yieldersOf (now (sheet .entry)) t) u)) ⌝ }
 {
     let mut r = 0u64;
     let mut rest = ts;
@@ -129,7 +133,7 @@ fn with_move(plan: &Plan, m: Moves, t: usize) -> Moves
 
 // What the transitions es do.
 fn moves_of(sheet: &[u32], plan: &Plan, es: u64) -> Moves
-    requires { ⌜ (sheetRefusal (now sheet) ≡ 0) × Planned (now sheet) (now plan) × (es < 2 ^ tOf (now sheet)) ⌝ }
+    requires { ⌜ Planned (now sheet) (now plan) × (es < 2 ^ tOf (now sheet)) ⌝ }
     ensures { λ r. ⌜ MovesOf (now (sheet .entry)) es r ⌝ }
 {
     let mut r = Moves {
@@ -177,8 +181,10 @@ fn ended(refusal: Refusal, sets: Sets, rounds: u32) -> Ticked
 
 // All rounds of a tick: each takes a transition not taken before, so T and one look are enough.
 fn rounds(sheet: &[u32], plan: &Plan, start: Sets, input: u32) -> Ticked
-    requires { ⌜ (sheetRefusal (now sheet) ≡ 0) × Planned (now sheet) (now plan) × Derived (now sheet) start × (input < 2 ^ kOf (now sheet)) ⌝ }
-    ensures { λ r. ⌜ (tickOf r ≡ roundsFrom (now (sheet .entry)) (suc (tOf (now (sheet .entry)))) (start .due) input (setsOf start) 0) × (r .sets .live ≡ sourcesIn (now (sheet .entry)) (r .sets .modes)) ⌝ }
+    requires { ⌜ Planned (now sheet) (now plan) × Derived (now sheet) start × (input < 2 ^ kOf (now sheet)) ⌝ }
+    ensures { λ r. ⌜ (tickOf r
+        ≡ roundsFrom (now (sheet .entry)) (suc (tOf (now (sheet .entry)))) (start .due) input (setsOf start) 0)
+        × (r .sets .live ≡ sourcesIn (now (sheet .entry)) (r .sets .modes)) ⌝ }
 {
     let most = transition_count(sheet);
     let mut z = start;
@@ -218,7 +224,7 @@ fn begin(modes: u32, live: u64, due: u64) -> Sets
 
 // The sets before the first round at power-on: the root is completed.
 fn power_on(sheet: &[u32], plan: &Plan) -> Sets
-    requires { ⌜ (sheetRefusal (now sheet) ≡ 0) × Planned (now sheet) (now plan) ⌝ }
+    requires { ⌜ Planned (now sheet) (now plan) ⌝ }
     ensures { λ r. ⌜ (setsOf r ≡ begin (now (sheet .entry)) 0) × Derived (now (sheet .entry)) r × (r .due ≡ 0) ⌝ }
 {
     let start = mode_set(plan, START);
@@ -235,11 +241,25 @@ fn power_on(sheet: &[u32], plan: &Plan) -> Sets
 
 // The tick from a mode set (0: power-on) with the transitions whose source is in it and its due timers.
 pub fn tick(sheet: &[u32], plan: &Plan, modes: u32, live: u64, due: u64, input: u32) -> Ticked
-    requires { ⌜ (sheetRefusal (now sheet) ≡ 0) × Planned (now sheet) (now plan) × Before (now sheet) modes live due × (input < 2 ^ kOf (now sheet)) ⌝ }
-    ensures { λ r. ⌜ (tickOf r ≡ tick (now (sheet .entry)) modes due input) × (r .sets .live ≡ sourcesIn (now (sheet .entry)) (r .sets .modes)) ⌝ }
+    requires { ⌜ Planned (now sheet) (now plan) × Before (now sheet) modes live due × (input < 2 ^ kOf (now sheet)) ⌝ }
+    ensures { λ r. ⌜ (tickOf r ≡ tick (now (sheet .entry)) modes due input)
+        × (r .sets .live ≡ sourcesIn (now (sheet .entry)) (r .sets .modes)) ⌝ }
 {
     if modes == 0 {
         return rounds(sheet, plan, power_on(sheet, plan), input);
     }
     rounds(sheet, plan, begin(modes, live, due), input)
+}
+
+// The five words of a tick.
+pub fn five_words(z: Sets) -> Five
+    ensures { λ r. ⌜ fiveOf r ≡ fiveWords (setsOf z) ⌝ }
+{
+    Five {
+        entered: z.entered,
+        exited: z.exited,
+        active: z.active,
+        low: transitions::low(z.taken),
+        high: transitions::high(z.taken),
+    }
 }

@@ -7,8 +7,8 @@ use borrow.Author.Needs.{needs}
 use lib.ListN.{replicate, getD-replicate}
 use Rattle.meaning.specs.Check.{sheetRefusal}
 use Rattle.meaning.specs.Hierarchy.{exits, enters}
-use Rattle.reaction.specs.Plan.{conflictsOf, yieldersOf}
-use Rattle.planner.proofs.Assembly.{Laid, lay, lay-word, none-laid, laid-has, laid-long, fromPiece, rowPiece, losesPiece, gainsPiece, delaysPiece, hitsPiece, ends, changes, conflicts, classes, row-kept, hits-kept, loses-are, gains-are, planned-of}
+use Rattle.reaction.specs.Plan.{exitsPart, entersPart, conflictsPart, yieldersPart, losesPart, gainsPart, fromPart, timersWord, mixedWord, startWord, planSize, conflictsOf, yieldersOf}
+use Rattle.planner.proofs.Assembly.{Laid, lay, lay-word, none-laid, laid-has, laid-long, fromPiece, rowPiece, losesPiece, gainsPiece, delaysPiece, hitsPiece, ends, changes, conflicts, classes, row-fits, hits-fit, loses-are, gains-are, planned-of}
 use Rattle.planner.proofs.planned.Statement.{statement}
 use Rattle.planner.proofs.planned.Tie as tie
 
@@ -47,38 +47,38 @@ past c = c .before .before .before .pre
 laid-from : (c : tie.After-put-from) → let s = sheet (by-from c) in Laid (fromPiece s ∷ []) (c .put-from .last .1 .0)
 laid-from c =
     let s = sheet (by-from c) in
-    lay (fromPiece s) (record { within = omega arith; inside = omega arith }) (none-laid (replicate 547 0) refl) (c .put-from .ensures)
+    lay (fromPiece s) (record { within = omega arith; inside = omega arith }) (none-laid (replicate planSize 0) refl) (c .put-from .ensures)
 
 laid-ends : (c : tie.After-put-ends) → let s = sheet (by-ends c) in Laid (ends s) (c .put-ends .last .1 .1 .0)
 laid-ends c =
     let s = sheet (by-ends c) in
     let h = past (by-ends c) in
-    lay (rowPiece s 64 (enters s)) (row-kept s h 64 (enters s) (omega arith))
-    (lay (rowPiece s 0 (exits s)) (row-kept s h 0 (exits s) (omega arith)) (laid-from (c .before .before .before)) refl) (c .put-ends .ensures)
+    lay (rowPiece s entersPart (enters s)) (row-fits s h entersPart (enters s) (omega arith))
+    (lay (rowPiece s exitsPart (exits s)) (row-fits s h exitsPart (exits s) (omega arith)) (laid-from (c .before .before .before)) refl) (c .put-ends .ensures)
 
 laid-loses : (c : tie.After-put-changes) → let s = sheet (by-loses c) in Laid (losesPiece s ∷ ends s) (c .put-changes .last .1 .0)
 laid-loses c =
     let s = sheet (by-loses c) in
     let h = past (by-loses c) in
     let d = laid-ends (c .before .before) in
-    lay (losesPiece s) (row-kept s h 256 (losesPiece s .word) (omega arith)) d (loses-are s h d (c .put-changes .ensures))
+    lay (losesPiece s) (row-fits s h losesPart (losesPiece s .word) (omega arith)) d (loses-are s h d (c .put-changes .ensures))
 
 laid-gains : (c : tie.After-put-changes2) → let s = sheet (by-gains c) in Laid (changes s) (c .put-changes2 .last .1 .0)
 laid-gains c =
     let s = sheet (by-gains c) in
     let h = past (by-gains c) in
     let d = laid-loses (c .before .before) in
-    lay (gainsPiece s) (row-kept s h 320 (gainsPiece s .word) (omega arith)) d (gains-are s h d (c .put-changes2 .ensures))
+    lay (gainsPiece s) (row-fits s h gainsPart (gainsPiece s .word) (omega arith)) d (gains-are s h d (c .put-changes2 .ensures))
 
-laid-conflicts : (c : tie.After-put-conflicts) → let s = sheet (by-conflicts c) in Laid (rowPiece s 128 (conflictsOf s) ∷ changes s) (c .put-conflicts .last .1 .1 .0)
+laid-conflicts : (c : tie.After-put-conflicts) → let s = sheet (by-conflicts c) in Laid (rowPiece s conflictsPart (conflictsOf s) ∷ changes s) (c .put-conflicts .last .1 .1 .0)
 laid-conflicts c =
     let s = sheet (by-conflicts c) in
-    lay (rowPiece s 128 (conflictsOf s)) (row-kept s (past (by-conflicts c)) 128 (conflictsOf s) (omega arith)) (laid-gains (c .before .before .before)) (c .put-conflicts .ensures)
+    lay (rowPiece s conflictsPart (conflictsOf s)) (row-fits s (past (by-conflicts c)) conflictsPart (conflictsOf s) (omega arith)) (laid-gains (c .before .before .before)) (c .put-conflicts .ensures)
 
 laid-yielders : (c : tie.After-put-yielders) → let s = sheet (by-yielders c) in Laid (conflicts s) (c .put-yielders .last .1 .1 .0)
 laid-yielders c =
     let s = sheet (by-yielders c) in
-    lay (rowPiece s 192 (yieldersOf s)) (row-kept s (past (by-yielders c)) 192 (yieldersOf s) (omega arith)) (laid-conflicts (c .before .before .before)) (c .put-yielders .ensures)
+    lay (rowPiece s yieldersPart (yieldersOf s)) (row-fits s (past (by-yielders c)) yieldersPart (yieldersOf s) (omega arith)) (laid-conflicts (c .before .before .before)) (c .put-yielders .ensures)
 
 laid-delays : (c : tie.After-put-delays) → let s = sheet (by-delays c) in Laid (delaysPiece s ∷ conflicts s) (c .put-delays .last .1 .1 .0)
 laid-delays c =
@@ -88,7 +88,7 @@ laid-delays c =
 laid-hits : (c : tie.After-put-hits) → let s = sheet (by-hits c) in Laid (classes s) (c .put-hits .last .1 .1 .0)
 laid-hits c =
     let s = sheet (by-hits c) in
-    lay (hitsPiece s) (hits-kept s (past (by-hits c))) (laid-delays (c .before .before)) (c .put-hits .ensures)
+    lay (hitsPiece s) (hits-fit s (past (by-hits c))) (laid-delays (c .before .before)) (c .put-hits .ensures)
 
 insides-requires : tie.Need-insides-requires
 insides-requires c κs = search needs
@@ -97,7 +97,7 @@ classes-of-requires : tie.Need-classes-of-requires
 classes-of-requires c κs = search needs
 
 put-from-requires : tie.Need-put-from-requires
-put-from-requires c κs = (past (c .before), refl, λ t h. getD-replicate 547 (512 + t) 0 0 (omega arith))
+put-from-requires c κs = (past (c .before), refl, λ t h. getD-replicate planSize (fromPart + t) 0 0 (omega arith))
 
 put-ends-requires : tie.Need-put-ends-requires
 put-ends-requires c κs = (past (by-from (c .before .before)), laid-long (laid-from (c .before .before)), by-from (c .before .before) .before .insides .ensures)
@@ -146,9 +146,9 @@ array-write-plan-3 c = search needs
 
 returns : tie.Need-returns
 returns c =
-    planned-of (sheet (by-hits (c .before .before)))
-    (lay-word 546 (omega arith) (c .start .ensures)
-    (lay-word 545 (omega arith) (c .before .mixed .ensures) (lay-word 544 (omega arith) (by-hits (c .before .before) .classes-of .ensures .0) (laid-hits (c .before .before)))))
+    planned-of (sheet (by-hits (c .before .before))) (past (by-hits (c .before .before)))
+    (lay-word startWord (omega arith) (c .start .ensures)
+    (lay-word mixedWord (omega arith) (c .before .mixed .ensures) (lay-word timersWord (omega arith) (by-hits (c .before .before) .classes-of .ensures .0) (laid-hits (c .before .before)))))
 
 pub planned-spec : {M : Type 1} → statement M
 planned-spec =

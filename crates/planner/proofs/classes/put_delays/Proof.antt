@@ -5,22 +5,22 @@ use native.Mathlib.Omega.{arith}
 use borrow.Author.Needs.{needs}
 use Rattle.rows.specs.Over.{over}
 use Rattle.meaning.specs.Lists.{rowFrom}
-use Rattle.planner.specs.Parts.{delayOf}
+use Rattle.reaction.specs.Plan.{delaysPart, timerDelay}
 use Rattle.planner.proofs.PartLaws.{part-none, part-turn, part-width}
 use Rattle.planner.proofs.classes.put_delays.Statement.{statement}
 use Rattle.planner.proofs.classes.put_delays.Tie as tie
 
 abbrev Inv-loop : tie.InvT-loop
-Inv-loop sheet timing plan₀ t₀ plan t = (t ≤ 64) × (plan ≡ over plan₀ 384 (rowFrom 0 t (delayOf sheet)))
+Inv-loop sheet timing plan₀ t₀ plan t = (t ≤ 64) × (plan ≡ over plan₀ delaysPart (rowFrom 0 t (timerDelay sheet)))
 
 abbrev μ-loop : tie.MeasureT-loop
 μ-loop sheet timing plan₀ t₀ plan t = 64 - t
 
 loop-holds : tie.Need-loop-holds Inv-loop μ-loop
-loop-holds c = (omega arith, part-none (c .before .args .plan .now) 384 _)
+loop-holds c = (omega arith, part-none (c .before .args .plan .now) delaysPart _)
 
-delay-of-requires : tie.Need-delay-of-requires Inv-loop μ-loop
-delay-of-requires c κs = (c .before .before .before .pre .0, c .before .before .before .pre .2, c .loop-test .taken)
+timer-delay-requires : tie.Need-timer-delay-requires Inv-loop μ-loop
+timer-delay-requires c κs = (c .before .before .before .pre .0, c .before .before .before .pre .2, c .loop-test .taken)
 
 add-plan : tie.Need-add-plan Inv-loop μ-loop
 add-plan c = search needs
@@ -41,12 +41,12 @@ loop-again : tie.Need-loop-again Inv-loop μ-loop
 loop-again c =
     let b = c .before .before .before .before in
     let l = c .before .before .loop in
-    (omega arith, part-turn (b .args .plan .now) 384 (delayOf (b .args .sheet .now)) (l .t) (omega arith) (l .inv .1) (c .delay-of .ensures))
+    (omega arith, part-turn (b .args .plan .now) delaysPart (timerDelay (b .args .sheet .now)) (l .t) (omega arith) (l .inv .1) (c .timer-delay .ensures))
 
 returns : tie.Need-returns Inv-loop μ-loop
 returns c =
     let b = c .before .before .before in
-    c .before .loop .inv .1 ∙ part-width (b .args .plan .now) 384 (delayOf (b .args .sheet .now)) (omega arith)
+    c .before .loop .inv .1 ∙ part-width (b .args .plan .now) delaysPart (timerDelay (b .args .sheet .now)) (omega arith)
 
 pub put-delays-spec : {M : Type 1} → statement M
 put-delays-spec =
@@ -55,7 +55,7 @@ put-delays-spec =
     Inv-loop
     μ-loop
     loop-holds
-    delay-of-requires
+    timer-delay-requires
     add-plan
     mul-plan
     element-write-plan

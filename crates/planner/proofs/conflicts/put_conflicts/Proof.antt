@@ -7,14 +7,14 @@ use Rattle.rows.specs.Over.{over}
 use Rattle.meaning.specs.Lists.{rowFrom}
 use Rattle.meaning.specs.Sheet.{tOf}
 use Rattle.meaning.proofs.SheetLaws.{sound, t-le}
-use Rattle.reaction.specs.Plan.{conflictsOf}
+use Rattle.reaction.specs.Plan.{conflictsPart, conflictsOf}
 use Rattle.sheet.proofs.Past.{head-read}
 use Rattle.planner.proofs.PartLaws.{part-none, part-turn, part-width}
 use Rattle.planner.proofs.conflicts.put_conflicts.Statement.{statement}
 use Rattle.planner.proofs.conflicts.put_conflicts.Tie as tie
 
 abbrev Inv-loop : tie.InvT-loop
-Inv-loop sheet inside plan₀ count meets t₀ plan t = (t ≤ tOf sheet) × (plan ≡ over plan₀ 128 (rowFrom 0 t (conflictsOf sheet)))
+Inv-loop sheet inside plan₀ count meets t₀ plan t = (t ≤ tOf sheet) × (plan ≡ over plan₀ conflictsPart (rowFrom 0 t (conflictsOf sheet)))
 
 abbrev μ-loop : tie.MeasureT-loop
 μ-loop sheet inside plan₀ count meets t₀ plan t = tOf sheet - t
@@ -26,7 +26,7 @@ meetings-requires : tie.Need-meetings-requires Inv-loop μ-loop
 meetings-requires c κs = c .before .before .pre .0
 
 loop-holds : tie.Need-loop-holds Inv-loop μ-loop
-loop-holds c = (omega arith, part-none (c .before .before .before .args .plan .now) 128 _)
+loop-holds c = (omega arith, part-none (c .before .before .before .args .plan .now) conflictsPart _)
 
 small : (c : tie.In-loop Inv-loop μ-loop) → c .before .loop .t < 64
 small c =
@@ -57,12 +57,12 @@ loop-again : tie.Need-loop-again Inv-loop μ-loop
 loop-again c =
     let b = c .before .before .before .before .before .before .before in
     let l = c .before .before .before .loop in
-    (omega arith, part-turn (b .args .plan .now) 128 (conflictsOf (b .args .sheet .now)) (l .t) (omega (arith, small (c .before .before))) (l .inv .1) (c .conflicts-of .ensures))
+    (omega arith, part-turn (b .args .plan .now) conflictsPart (conflictsOf (b .args .sheet .now)) (l .t) (omega (arith, small (c .before .before))) (l .inv .1) (c .conflicts-of .ensures))
 
 returns : tie.Need-returns Inv-loop μ-loop
 returns c =
     let b = c .before .before .before .before .before in
-    c .before .loop .inv .1 ∙ part-width (b .args .plan .now) 128 (conflictsOf (b .args .sheet .now)) (omega arith)
+    c .before .loop .inv .1 ∙ part-width (b .args .plan .now) conflictsPart (conflictsOf (b .args .sheet .now)) (omega arith)
 
 pub put-conflicts-spec : {M : Type 1} → statement M
 put-conflicts-spec =

@@ -7,7 +7,7 @@ use Rattle.rows.specs.Over.{over}
 use Rattle.meaning.specs.Lists.{rowFrom}
 use Rattle.meaning.specs.Sheet.{tOf}
 use Rattle.meaning.proofs.SheetLaws.{sound, t-le, n-le, source-lt}
-use Rattle.reaction.specs.Plan.{yieldersOf}
+use Rattle.reaction.specs.Plan.{yieldersPart, yieldersOf}
 use Rattle.sheet.proofs.Past.{head-read, record-read}
 use Rattle.planner.proofs.PartLaws.{part-none, part-turn, part-width}
 use Rattle.planner.proofs.ConflictLaws.{yielders-from, yielders-conflicts, yielders-word}
@@ -15,7 +15,7 @@ use Rattle.planner.proofs.conflicts.put_yielders.Statement.{statement}
 use Rattle.planner.proofs.conflicts.put_yielders.Tie as tie
 
 abbrev Inv-loop : tie.InvT-loop
-Inv-loop sheet inside plan₀ count t₀ plan t = (t ≤ tOf sheet) × (plan ≡ over plan₀ 192 (rowFrom 0 t (yieldersOf sheet)))
+Inv-loop sheet inside plan₀ count t₀ plan t = (t ≤ tOf sheet) × (plan ≡ over plan₀ yieldersPart (rowFrom 0 t (yieldersOf sheet)))
 
 abbrev μ-loop : tie.MeasureT-loop
 μ-loop sheet inside plan₀ count t₀ plan t = tOf sheet - t
@@ -24,7 +24,7 @@ transition-count-requires : tie.Need-transition-count-requires Inv-loop μ-loop
 transition-count-requires c κs = head-read (c .before .args .sheet .now) (c .before .pre .0)
 
 loop-holds : tie.Need-loop-holds Inv-loop μ-loop
-loop-holds c = (omega arith, part-none (c .before .before .args .plan .now) 192 _)
+loop-holds c = (omega arith, part-none (c .before .before .args .plan .now) yieldersPart _)
 
 source-requires : tie.Need-source-requires Inv-loop μ-loop
 source-requires c κs =
@@ -95,12 +95,12 @@ loop-again c =
     let row = yielders-conflicts s p (l .t) (l .inv .1) (omega arith) (small (c .before .before .before .before .before .before .before)) (b .pre .4) k in
     let word =
     yielders-word s (b .pre .0) (b .args .inside .now) (b .pre .2) (l .t) k (c .before .before .before .before .before .before .source .ensures) (c .before .before .before .before .single .ensures) (c .before .before .before .minus .ensures) (c .before .from-set .ensures) row in
-    (omega arith, part-turn p 192 (yieldersOf s) (l .t) (omega (arith, small (c .before .before .before .before .before .before .before))) (l .inv .1) word)
+    (omega arith, part-turn p yieldersPart (yieldersOf s) (l .t) (omega (arith, small (c .before .before .before .before .before .before .before))) (l .inv .1) word)
 
 returns : tie.Need-returns Inv-loop μ-loop
 returns c =
     let b = c .before .before .before .before in
-    c .before .loop .inv .1 ∙ part-width (b .args .plan .now) 192 (yieldersOf (b .args .sheet .now)) (omega arith)
+    c .before .loop .inv .1 ∙ part-width (b .args .plan .now) yieldersPart (yieldersOf (b .args .sheet .now)) (omega arith)
 
 pub put-yielders-spec : {M : Type 1} → statement M
 put-yielders-spec =

@@ -9,13 +9,14 @@ use Rattle.meaning.specs.Sheet.{tOf}
 use Rattle.meaning.specs.Hierarchy.{exits, enters}
 use Rattle.meaning.proofs.SheetLaws.{sound, t-le}
 use Rattle.sheet.proofs.Past.{head-read}
+use Rattle.reaction.specs.Plan.{exitsPart, entersPart}
 use Rattle.planner.proofs.PartLaws.{part-none, parts-turn, parts-width}
 use Rattle.planner.proofs.ends.put_ends.Statement.{statement}
 use Rattle.planner.proofs.ends.put_ends.Tie as tie
 
 abbrev Inv-loop : tie.InvT-loop
 Inv-loop sheet inside plan₀ count t₀ plan t =
-    (t ≤ tOf sheet) × (plan ≡ over (over plan₀ 0 (rowFrom 0 t (exits sheet))) 64 (rowFrom 0 t (enters sheet)))
+    (t ≤ tOf sheet) × (plan ≡ over (over plan₀ exitsPart (rowFrom 0 t (exits sheet))) entersPart (rowFrom 0 t (enters sheet)))
 
 abbrev μ-loop : tie.MeasureT-loop
 μ-loop sheet inside plan₀ count t₀ plan t = tOf sheet - t
@@ -24,7 +25,7 @@ transition-count-requires : tie.Need-transition-count-requires Inv-loop μ-loop
 transition-count-requires c κs = head-read (c .before .args .sheet .now) (c .before .pre .0)
 
 loop-holds : tie.Need-loop-holds Inv-loop μ-loop
-loop-holds c = (omega arith, part-none (c .before .before .args .plan .now) 0 _ ∙ part-none _ 64 _)
+loop-holds c = (omega arith, part-none (c .before .before .args .plan .now) exitsPart _ ∙ part-none _ entersPart _)
 
 small : (c : tie.In-loop Inv-loop μ-loop) → c .before .loop .t < 64
 small c =
@@ -77,13 +78,13 @@ loop-again c =
     let l = c .before .before .before .loop in
     let s = b .args .sheet .now in
     let k = small (c .before .before) in
-    (omega arith, parts-turn (b .args .plan .now) 0 64 (exits s) (enters s) (l .t) (omega arith) (omega arith) (l .inv .1) (c .before .exited-by .ensures) (c .entered-by .ensures))
+    (omega arith, parts-turn (b .args .plan .now) exitsPart entersPart (exits s) (enters s) (l .t) (omega arith) (omega arith) (l .inv .1) (c .before .exited-by .ensures) (c .entered-by .ensures))
 
 returns : tie.Need-returns Inv-loop μ-loop
 returns c =
     let b = c .before .before .before .before in
     let s = b .args .sheet .now in
-    c .before .loop .inv .1 ∙ parts-width (b .args .plan .now) 0 64 (exits s) (enters s) (omega arith)
+    c .before .loop .inv .1 ∙ parts-width (b .args .plan .now) exitsPart entersPart (exits s) (enters s) (omega arith)
 
 pub put-ends-spec : {M : Type 1} → statement M
 put-ends-spec =

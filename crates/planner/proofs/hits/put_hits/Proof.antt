@@ -7,7 +7,7 @@ use Rattle.rows.specs.Over.{over}
 use Rattle.meaning.specs.Lists.{rowFrom}
 use Rattle.meaning.specs.Sheet.{kOf}
 use Rattle.meaning.proofs.SheetLaws.{sound, k-le}
-use Rattle.reaction.specs.Plan.{hitsOf}
+use Rattle.reaction.specs.Plan.{hitsPart, hitsOf}
 use Rattle.sheet.proofs.Past.{head-read}
 use Rattle.planner.proofs.PartLaws.{part-none, part-turn, part-width}
 use Rattle.planner.proofs.HitLaws.{inputs-le, inputs-count}
@@ -15,7 +15,7 @@ use Rattle.planner.proofs.hits.put_hits.Statement.{statement}
 use Rattle.planner.proofs.hits.put_hits.Tie as tie
 
 abbrev Inv-loop : tie.InvT-loop
-Inv-loop sheet certain plan₀ count i₀ plan i = (i ≤ 2 ^ kOf sheet) × (count ≡ 2 ^ kOf sheet) × (plan ≡ over plan₀ 448 (rowFrom 0 i (hitsOf sheet)))
+Inv-loop sheet certain plan₀ count i₀ plan i = (i ≤ 2 ^ kOf sheet) × (count ≡ 2 ^ kOf sheet) × (plan ≡ over plan₀ hitsPart (rowFrom 0 i (hitsOf sheet)))
 
 abbrev μ-loop : tie.MeasureT-loop
 μ-loop sheet certain plan₀ count i₀ plan i = 2 ^ kOf sheet - i
@@ -31,7 +31,7 @@ shl-count c =
 loop-holds : tie.Need-loop-holds Inv-loop μ-loop
 loop-holds c =
     let b = c .before .before in
-    (omega arith, inputs-count (b .args .sheet .now) (b .pre .0) (c .event-count .ensures), part-none (b .args .plan .now) 448 _)
+    (omega arith, inputs-count (b .args .sheet .now) (b .pre .0) (c .event-count .ensures), part-none (b .args .plan .now) hitsPart _)
 
 input : (c : tie.In-loop Inv-loop μ-loop) → c .before .loop .i < 2 ^ kOf (c .before .before .before .before .args .sheet .now)
 input c = omega arith
@@ -69,14 +69,14 @@ loop-again c =
     let p = b .args .plan .now in (
       omega (arith, input (c .before .before)),
       l .inv .1,
-      rw (c .wide .ensures) (part-turn p 448 (hitsOf (b .args .sheet .now)) (l .i) (omega (arith, small (c .before .before))) (l .inv .2) (c .before .hits-of .ensures)),
+      rw (c .wide .ensures) (part-turn p hitsPart (hitsOf (b .args .sheet .now)) (l .i) (omega (arith, small (c .before .before))) (l .inv .2) (c .before .hits-of .ensures)),
     )
 
 returns : tie.Need-returns Inv-loop μ-loop
 returns c =
     let b = c .before .before .before .before in
     let l = c .before .loop in
-    l .inv .2 ∙ part-width (b .args .plan .now) 448 (hitsOf (b .args .sheet .now)) (omega arith)
+    l .inv .2 ∙ part-width (b .args .plan .now) hitsPart (hitsOf (b .args .sheet .now)) (omega arith)
 
 pub put-hits-spec : {M : Type 1} → statement M
 put-hits-spec =

@@ -8,12 +8,13 @@ use Rattle.meaning.specs.Lists.{rowFrom}
 use Rattle.meaning.specs.Sheet.{tOf, source}
 use Rattle.meaning.proofs.SheetLaws.{sound, t-le, n-le, source-lt}
 use Rattle.sheet.proofs.Past.{head-read, record-read}
+use Rattle.reaction.specs.Plan.{fromPart}
 use Rattle.planner.proofs.SourceLaws.{fromBelow, from-start, from-turn, from-done}
 use Rattle.planner.proofs.sources.put_from.Statement.{statement}
 use Rattle.planner.proofs.sources.put_from.Tie as tie
 
 abbrev Inv-loop : tie.InvT-loop
-Inv-loop sheet plan₀ count t₀ plan t = (t ≤ tOf sheet) × (plan ≡ over plan₀ 512 (rowFrom 0 32 (fromBelow sheet t)))
+Inv-loop sheet plan₀ count t₀ plan t = (t ≤ tOf sheet) × (plan ≡ over plan₀ fromPart (rowFrom 0 32 (fromBelow sheet t)))
 
 abbrev μ-loop : tie.MeasureT-loop
 μ-loop sheet plan₀ count t₀ plan t = tOf sheet - t

@@ -7,6 +7,7 @@ use lib.ListN.{getD}
 use borrow.Author.Needs.{needs}
 use Rattle.sets.specs.Sets.{union, minus, single, members, lowest}
 use Rattle.sets.proofs.Members.{Turn, turn, fold, fold-turn, fold-done}
+use Rattle.reaction.specs.Plan.{fromPart}
 use Rattle.reaction.proofs.PlanLaws.{from-over}
 use Rattle.reaction.proofs.plan.from_set.Statement.{statement}
 use Rattle.reaction.proofs.plan.from_set.Tie as tie
@@ -14,7 +15,7 @@ use Rattle.reaction.proofs.plan.from_set.Tie as tie
 abbrev Inv-loop : tie.InvT-loop
 Inv-loop sheet plan set r₀ rest₀ r rest =
     (rest < 2 ^ 32)
-    × (fold (λ a m. union a (getD plan (512 + m) 0)) r (members 32 rest) ≡ fold (λ a m. union a (getD plan (512 + m) 0)) 0 (members 32 set))
+    × (fold (λ a m. union a (getD plan (fromPart + m) 0)) r (members 32 rest) ≡ fold (λ a m. union a (getD plan (fromPart + m) 0)) 0 (members 32 set))
 
 abbrev μ-loop : tie.MeasureT-loop
 μ-loop sheet plan set r₀ rest₀ r rest = rest

@@ -49,7 +49,7 @@ returns c =
     let b = c .before .before .before in
     let a = b .args in
     subst (MovesOf (a .sheet .now) (a .es)) (sym (sym (fold-done (addMove (a .plan .now)) (l .r) 64 (l .rest) (c .loop-test .left)) ∙ l .inv .1))
-    (moves-all (a .sheet .now) (a .plan .now) (b .pre .1) (a .es) (b .fits .es .fits) (b .pre .2))
+    (moves-all (a .sheet .now) (a .plan .now) (b .pre .0) (a .es) (b .fits .es .fits) (b .pre .1))
 
 pub moves-of-spec : {M : Type 1} → statement M
 moves-of-spec =

@@ -10,12 +10,12 @@ mode-set-requires : tie.Need-mode-set-requires
 mode-set-requires c κs = search needs
 
 from-set-requires : tie.Need-from-set-requires
-from-set-requires c κs = c .before .before .pre .1 .fromAt
+from-set-requires c κs = c .before .before .pre .fromAt
 
 returns : tie.Need-returns
 returns c =
     let before = c .before .before .before in (
-      power-on-begins _ _ (c .from-set .result) (c .before .mode-set .ensures ∙ start-word _ _ (before .pre .0) (before .pre .1)),
+      power-on-begins _ _ (c .from-set .result) (c .before .mode-set .ensures ∙ start-word _ _ (before .pre)),
       power-on-derived _ _ _ (c .from-set .ensures),
       refl,
     )

@@ -18,12 +18,12 @@ abbrev μ-loop : tie.MeasureT-loop
 μ-loop sheet plan input most z₀ r₀ z r = suc most - r
 
 transition-count-requires : tie.Need-transition-count-requires Inv-loop μ-loop
-transition-count-requires c κs = sound (c .before .args .sheet .now) (c .before .pre .0) .head
+transition-count-requires c κs = sound (c .before .args .sheet .now) (c .before .pre .0 .passes) .head
 
 loop-holds : tie.Need-loop-holds Inv-loop μ-loop
 loop-holds c =
     let b = c .before .before in
-    left-start (b .args .sheet .now) (b .args .start) (b .args .input) (b .pre .2)
+    left-start (b .args .sheet .now) (b .args .start) (b .args .input) (b .pre .1)
 
 wide-requires : tie.Need-wide-requires Inv-loop μ-loop
 wide-requires c κs = search needs
@@ -32,13 +32,13 @@ triggered-requires : tie.Need-triggered-requires Inv-loop μ-loop
 triggered-requires c κs =
     let l = c .before .before .loop in
     let b = c .before .before .before .before .before in
-    (b .pre .0, b .pre .1, along-derived (b .args .sheet .now) (b .args .start .due) (l .z) (l .inv .along), b .pre .3)
+    (b .pre .0, along-derived (b .args .sheet .now) (b .args .start .due) (l .z) (l .inv .along), b .pre .2)
 
 eligible-requires : tie.Need-eligible-requires Inv-loop μ-loop
 eligible-requires c κs =
     let z = c .before .before .before .loop .z in
     let b = c .before .before .before .before .before .before in
-    (b .pre .1, rw (c .triggered .ensures) (triggered-small (b .args .sheet .now) (z .due) (b .args .input) (setsOf z)))
+    (b .pre .0, rw (c .triggered .ensures) (triggered-small (b .args .sheet .now) (z .due) (b .args .input) (setsOf z)))
 
 -- the round at hand
 round : (c : tie.After-eligible Inv-loop μ-loop)
@@ -62,7 +62,7 @@ returns c = round-still (round (c .before .before)) (c .before .if2 .taken) (c .
 moves-of-requires : tie.Need-moves-of-requires Inv-loop μ-loop
 moves-of-requires c κs =
     let b = c .before .before .before .before .before .before .before .before in
-    (b .pre .0, b .pre .1, rw (c .before .eligible .ensures) (eligible-small (b .args .sheet .now) (c .before .before .triggered .result)))
+    (b .pre .0, rw (c .before .eligible .ensures) (eligible-small (b .args .sheet .now) (c .before .before .triggered .result)))
 
 meets-requires : tie.Need-meets-requires Inv-loop μ-loop
 meets-requires c κs = search needs
@@ -94,7 +94,7 @@ add-r : tie.Need-add-r Inv-loop μ-loop
 add-r c =
     let e = c .before .before .before .before .before .before .before in
     let b = e .before .before .before .before .before .before .before in
-    omega (arith, round e .within, t-le (b .args .sheet .now) (sound (b .args .sheet .now) (b .pre .0)))
+    omega (arith, round e .within, t-le (b .args .sheet .now) (sound (b .args .sheet .now) (b .pre .0 .passes)))
 
 loop-less : tie.Need-loop-less Inv-loop μ-loop
 loop-less c = omega arith
@@ -107,7 +107,7 @@ loop-again c =
     let l = e .before .before .before .before .loop in
     subst (λ (z : Sets). Left (b .args .sheet .now) (b .args .start) (b .args .input) z (l .r + 1)) (sym (c .after-round .ensures))
     (round-taken (round e) (k .before .moves-of .ensures) (k .before .before .if2 .left) (sym (k .meets .ensures) ∙ c .before .before .before .if3 .left)
-    (sound (b .args .sheet .now) (b .pre .0)) (sym (c .before .before .meets2 .ensures) ∙ c .before .if4 .left))
+    (sound (b .args .sheet .now) (b .pre .0 .passes)) (sym (c .before .before .meets2 .ensures) ∙ c .before .if4 .left))
 
 ended-requires-4 : tie.Need-ended-requires-4 Inv-loop μ-loop
 ended-requires-4 c κs = search needs

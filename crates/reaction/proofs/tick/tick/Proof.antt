@@ -16,7 +16,7 @@ returns c =
     let b = k .before .before .before in
     let first = k .before .if1 .taken in
     let on = k .power-on .ensures in
-    (tick-first (b .args .sheet .now) (k .power-on .result) (b .args .input) first (b .pre .2 .none first) (on .0) (on .2) (c .rounds .ensures .0), c .rounds .ensures .1)
+    (tick-first (b .args .sheet .now) (k .power-on .result) (b .args .input) first (b .pre .1 .none first) (on .0) (on .2) (c .rounds .ensures .0), c .rounds .ensures .1)
 
 begin-requires : tie.Need-begin-requires
 begin-requires c κs = search needs
@@ -24,7 +24,7 @@ begin-requires c κs = search needs
 rounds-requires-2 : tie.Need-rounds-requires-2
 rounds-requires-2 c κs =
     let b = c .before .before .before in
-    (b .pre .0, b .pre .1, begun-derived (b .args .sheet .now) (b .pre .2) (c .begin .ensures), b .pre .3)
+    (b .pre .0, begun-derived (b .args .sheet .now) (b .pre .1) (c .begin .ensures), b .pre .2)
 
 returns-2 : tie.Need-returns-2
 returns-2 c =

@@ -8,14 +8,14 @@ use Rattle.sets.specs.Sets.{union, minus, single, members, lowest}
 use Rattle.sets.proofs.Members.{Turn, turn, fold, fold-turn, fold-done}
 use Rattle.sets.proofs.Widths.{union-over}
 use Rattle.meaning.specs.Sheet.{tOf}
-use Rattle.reaction.specs.Plan.{yieldersOf}
+use Rattle.reaction.specs.Plan.{yieldersPart, yieldersOf}
 use Rattle.reaction.proofs.RoundLaws.{yielders-small}
 use Rattle.reaction.proofs.tick.yielding.Statement.{statement}
 use Rattle.reaction.proofs.tick.yielding.Tie as tie
 
 abbrev Inv-loop : tie.InvT-loop
 Inv-loop sheet plan ts r₀ rest₀ r rest =
-    (rest < 2 ^ 64) × (fold (λ x t. union x (getD plan (192 + t) 0)) r (members 64 rest) ≡ fold (λ x t. union x (getD plan (192 + t) 0)) 0 (members 64 ts))
+    (rest < 2 ^ 64) × (fold (λ x t. union x (getD plan (yieldersPart + t) 0)) r (members 64 rest) ≡ fold (λ x t. union x (getD plan (yieldersPart + t) 0)) 0 (members 64 ts))
 
 abbrev μ-loop : tie.MeasureT-loop
 μ-loop sheet plan ts r₀ rest₀ r rest = rest
@@ -56,7 +56,7 @@ returns c =
     let a = c .before .before .before .args in
     let s = a .sheet .now in
     sym (fold-done _ (l .r) 64 (l .rest) (c .loop-test .left)) ∙ l .inv .1
-    ∙ union-over 64 (tOf s) (tOf s) (a .ts) (λ t. getD (a .plan .now) (192 + t) 0) (yieldersOf s) (c .before .before .before .fits .ts .fits) (c .before .before .before .pre .1)
+    ∙ union-over 64 (tOf s) (tOf s) (a .ts) (λ t. getD (a .plan .now) (yieldersPart + t) 0) (yieldersOf s) (c .before .before .before .fits .ts .fits) (c .before .before .before .pre .1)
     (c .before .before .before .pre .0 .yieldersAt) (yielders-small s)
 
 pub yielding-spec : {M : Type 1} → statement M

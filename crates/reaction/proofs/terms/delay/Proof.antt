@@ -1,9 +1,9 @@
--- `planner::classes::delay` meets its contract. Assumes nothing.
+-- `reaction::terms::delay` meets its contract. Assumes nothing.
 
 use Rattle.meaning.specs.Reaction.{delay}
 use Rattle.sheet.proofs.Past.{first-read}
-use Rattle.planner.proofs.classes.delay.Statement.{statement}
-use Rattle.planner.proofs.classes.delay.Tie as tie
+use Rattle.reaction.proofs.terms.delay.Statement.{statement}
+use Rattle.reaction.proofs.terms.delay.Tie as tie
 
 term-value-requires : tie.Need-term-value-requires
 term-value-requires c κs = first-read (c .before .args .sheet .now) (c .before .pre .0) (c .before .args .t) (c .before .pre .1)

@@ -1,10 +1,10 @@
--- `planner::classes::is_timer` meets its contract. Assumes nothing.
+-- `reaction::terms::is_timer` meets its contract. Assumes nothing.
 use mathlib.Core.Path.{ap}
 use borrow.Author.Needs.{needs}
 use lib.Dec.{ltb}
 use Rattle.meaning.specs.Reaction.{isTimer}
-use Rattle.planner.proofs.classes.is_timer.Statement.{statement}
-use Rattle.planner.proofs.classes.is_timer.Tie as tie
+use Rattle.reaction.proofs.terms.is_timer.Statement.{statement}
+use Rattle.reaction.proofs.terms.is_timer.Tie as tie
 
 is-delay-requires : tie.Need-is-delay-requires
 is-delay-requires c κs = search needs

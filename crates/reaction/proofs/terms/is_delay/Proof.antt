@@ -1,11 +1,11 @@
--- `planner::classes::is_delay` meets its contract. Assumes nothing.
+-- `reaction::terms::is_delay` meets its contract. Assumes nothing.
 use mathlib.Core.Path.{ap}
 use Prim.Native.Nat.{ℕ}
 use lib.Dec.{eqb}
 use Rattle.meaning.specs.Reaction.{isDelay}
 use Rattle.sheet.proofs.Past.{first-read}
-use Rattle.planner.proofs.classes.is_delay.Statement.{statement}
-use Rattle.planner.proofs.classes.is_delay.Tie as tie
+use Rattle.reaction.proofs.terms.is_delay.Statement.{statement}
+use Rattle.reaction.proofs.terms.is_delay.Tie as tie
 
 term-kind-requires : tie.Need-term-kind-requires
 term-kind-requires c κs = first-read (c .before .args .sheet .now) (c .before .pre .0) (c .before .args .t) (c .before .pre .1)
