@@ -1,2 +1,2 @@
-pub mod ListedLaws
-pub mod DueLaws
+pub mod ListPlaceLaws
+pub mod NextDueLaws

@@ -1,5 +1,5 @@
-pub mod BlockLaws
-pub mod RowLaws
+pub mod BlockTimerLaws
+pub mod RowAfterRowLaws
 pub mod WalkSteps
 pub mod FillLaws
 pub mod CompileLaws

@@ -7,7 +7,7 @@ use native.Mathlib.Omega.{arith}
 use lib.ListN.{length, getD, take, drop, set, length-append, drop-of-length-le}
 use lib.Seq.{length-take-le, paste, paste-suc, drop-cons, take-at, take-suc-set}
 use Rattle.rows.specs.Over.{over}
-use Rattle.rows.proofs.Laws.{over-def, length-over}
+use Rattle.rows.proofs.OverLaws.{over-def, length-over}
 use Rattle.decimals.specs.Printing.{decimalOf, lineOf}
 
 -- ---- the first i of the bytes ds at the place `at`

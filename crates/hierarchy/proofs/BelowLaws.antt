@@ -19,7 +19,7 @@ use Rattle.meaning.proofs.ListLaws.{allOf-e}
 use Rattle.meaning.proofs.SheetLaws.{parent-n, Sound, n-pos, tree, first-child}
 use Rattle.meaning.proofs.Containment.{Within, here, up, isChild-e, isChild-i}
 use Rattle.meaning.proofs.Completion.{Comp, base, down, complete-e, complete-i, Based}
-use Rattle.hierarchy.specs.Below.{last, gather, kept, belowAt, below, branch}
+use Rattle.hierarchy.specs.Below.{last, gather, keptChild, completedBelowAt, completedBelow, branch}
 use Rattle.hierarchy.proofs.Gather.{last-cases, last-hit, last-miss, last-none, gather-e, gather-i, gather-same, gather-hit, gather-miss, gather-none}
 
 -- a mode's kind by the code's test
@@ -30,8 +30,8 @@ pub other-of : (k : ℕ) (t : Bool) → t ≡ eqb k 1 → t ≡ false → k ≡ 
 other-of k t e h = eqb-false k 1 (sym e ∙ h)
 
 -- the child that serial mode m takes, as far as the modes below c tell
-abbrev pub keptTo : List ℕ → ℕ → ℕ → ℕ → ℕ
-keptTo s x m c = last (λ i. isChild s m i && has x i) (first s m) c
+abbrev pub keptChildSoFar : List ℕ → ℕ → ℕ → ℕ → ℕ
+keptChildSoFar s x m c = last (λ i. isChild s m i && has x i) (first s m) c
 
 -- ---- children
 
@@ -74,84 +74,84 @@ module _ (s : List ℕ) (sd : Sound s) where
     pub record Step (p c : ℕ) : Type 0 where
       pub small : c < nOf s
       pub child : T (isChild s p c)
-      pub only : kind s p ≡ 1 → kept s x p ≡ c
+      pub only : kind s p ≡ 1 → keptChild s x p ≡ c
 
     -- the child that a serial mode takes: its child in x, or else its first mode
-    abbrev Kept : ℕ → Type 0
-    Kept m = ((kept s x m < nOf s) × T (isChild s m (kept s x m) && has x (kept s x m))) ⊎ ((kept s x m ≡ first s m) × ((i : ℕ) → i < nOf s → T (isChild s m i && has x i) → ⊥))
+    abbrev KeptChild : ℕ → Type 0
+    KeptChild m = ((keptChild s x m < nOf s) × T (isChild s m (keptChild s x m) && has x (keptChild s x m))) ⊎ ((keptChild s x m ≡ first s m) × ((i : ℕ) → i < nOf s → T (isChild s m i && has x i) → ⊥))
 
-    kept-cases : (m : ℕ) → Kept m
-    unfolding kept
-    kept-cases m = last-cases (λ c. isChild s m c && has x c) (first s m) (nOf s)
+    kept-child-cases : (m : ℕ) → KeptChild m
+    unfolding keptChild
+    kept-child-cases m = last-cases (λ c. isChild s m c && has x c) (first s m) (nOf s)
 
-    pub kept-step : (m : ℕ) → m < nOf s → kind s m ≡ 1 → Step m (kept s x m)
-    kept-step m l k = go (kept-cases m)
+    pub kept-child-step : (m : ℕ) → m < nOf s → kind s m ≡ 1 → Step m (keptChild s x m)
+    kept-child-step m l k = go (kept-child-cases m)
       where
-        go : Kept m → Step m (kept s x m)
-        go (inl f) = record { small = f .0; child = and-l (isChild s m (kept s x m)) (has x (kept s x m)) (f .1); only = λ _. refl }
+        go : KeptChild m → Step m (keptChild s x m)
+        go (inl f) = record { small = f .0; child = and-l (isChild s m (keptChild s x m)) (has x (keptChild s x m)) (f .1); only = λ _. refl }
         go (inr f) =
             let r = first-child s sd m l k in
             record { small = subst (λ (i : ℕ). i < nOf s) (sym (f .0)) (r .0); child = subst (λ (i : ℕ). T (isChild s m i)) (sym (f .0)) (r .1); only = λ _. refl }
 
     -- where the code goes from serial mode m
-    pub kept-next : (m c : ℕ) → m < nOf s → kind s m ≡ 1 → c ≡ kept s x m → (m < c) × (c < nOf s)
-    kept-next m c l k e = let t = kept-step m l k in omega (arith, child-above m (kept s x m) (t .small) (t .child), t .small)
+    pub kept-child-next : (m c : ℕ) → m < nOf s → kind s m ≡ 1 → c ≡ keptChild s x m → (m < c) × (c < nOf s)
+    kept-child-next m c l k e = let t = kept-child-step m l k in omega (arith, child-above m (keptChild s x m) (t .small) (t .child), t .small)
 
     -- the loop that looks for it: its start, its turn at c and its end
-    pub kept-start : (m r : ℕ) → m < nOf s → r ≡ first s m → r ≡ keptTo s x m (m + 1)
-    kept-start m r l e =
+    pub kept-child-start : (m r : ℕ) → m < nOf s → r ≡ first s m → r ≡ keptChildSoFar s x m (m + 1)
+    kept-child-start m r l e =
         e ∙ sym (last-none (λ i. isChild s m i && has x i) (first s m) (m + 1) (λ i h. ap (λ (b : Bool). b && has x i) (no-low-child m i l h)))
 
-    pub kept-hit : (m c : ℕ) (b : Bool) → b ≡ (isChild s m c && has x c) → b ≡ true → c ≡ keptTo s x m (c + 1)
-    kept-hit m c b e h = sym (last-hit (λ i. isChild s m i && has x i) (first s m) c (sym e ∙ h))
+    pub kept-child-hit : (m c : ℕ) (b : Bool) → b ≡ (isChild s m c && has x c) → b ≡ true → c ≡ keptChildSoFar s x m (c + 1)
+    kept-child-hit m c b e h = sym (last-hit (λ i. isChild s m i && has x i) (first s m) c (sym e ∙ h))
 
-    pub kept-miss : (m c r : ℕ) (b : Bool) → b ≡ (isChild s m c && has x c) → b ≡ false → r ≡ keptTo s x m c → r ≡ keptTo s x m (c + 1)
-    kept-miss m c r b e h i = i ∙ sym (last-miss (λ j. isChild s m j && has x j) (first s m) c (sym e ∙ h))
+    pub kept-child-miss : (m c r : ℕ) (b : Bool) → b ≡ (isChild s m c && has x c) → b ≡ false → r ≡ keptChildSoFar s x m c → r ≡ keptChildSoFar s x m (c + 1)
+    kept-child-miss m c r b e h i = i ∙ sym (last-miss (λ j. isChild s m j && has x j) (first s m) c (sym e ∙ h))
 
-    pub kept-end : (m c r : ℕ) → c ≡ nOf s → r ≡ keptTo s x m c → r ≡ kept s x m
-    unfolding kept
-    kept-end m c r e i = i ∙ ap (keptTo s x m) e
+    pub kept-child-end : (m c r : ℕ) → c ≡ nOf s → r ≡ keptChildSoFar s x m c → r ≡ keptChild s x m
+    unfolding keptChild
+    kept-child-end m c r e i = i ∙ ap (keptChildSoFar s x m) e
 
     -- ---- the depth never matters
 
-    enough : (f g m : ℕ) → m < nOf s → nOf s ≤ f + m → nOf s ≤ g + m → belowAt s x f m ≡ belowAt s x g m
-    unfolding belowAt
+    enough : (f g m : ℕ) → m < nOf s → nOf s ≤ f + m → nOf s ≤ g + m → completedBelowAt s x f m ≡ completedBelowAt s x g m
+    unfolding completedBelowAt
     enough zero g m l h h′ = absurd (omega arith)
     enough (suc f) zero m l h h′ = absurd (omega arith)
     enough (suc f) (suc g) m l h h′ = go (eqb (kind s m) 1) refl (enough f g)
       where
         go : (b : Bool) → eqb (kind s m) 1 ≡ b
-            → ((c : ℕ) → c < nOf s → nOf s ≤ f + c → nOf s ≤ g + c → belowAt s x f c ≡ belowAt s x g c)
-            → cond b (union (single (kept s x m)) (belowAt s x f (kept s x m))) (gather (isChild s m) (λ c. union (single c) (belowAt s x f c)) (nOf s))
-            ≡ cond b (union (single (kept s x m)) (belowAt s x g (kept s x m))) (gather (isChild s m) (λ c. union (single c) (belowAt s x g c)) (nOf s))
+            → ((c : ℕ) → c < nOf s → nOf s ≤ f + c → nOf s ≤ g + c → completedBelowAt s x f c ≡ completedBelowAt s x g c)
+            → cond b (union (single (keptChild s x m)) (completedBelowAt s x f (keptChild s x m))) (gather (isChild s m) (λ c. union (single c) (completedBelowAt s x f c)) (nOf s))
+            ≡ cond b (union (single (keptChild s x m)) (completedBelowAt s x g (keptChild s x m))) (gather (isChild s m) (λ c. union (single c) (completedBelowAt s x g c)) (nOf s))
         go true e ih =
-            let t = kept-next m (kept s x m) l (eqb-true (kind s m) 1 e) refl in
-            ap (union (single (kept s x m))) (ih (kept s x m) (t .1) (omega (arith, t .0)) (omega (arith, t .0)))
+            let t = kept-child-next m (keptChild s x m) l (eqb-true (kind s m) 1 e) refl in
+            ap (union (single (keptChild s x m))) (ih (keptChild s x m) (t .1) (omega (arith, t .0)) (omega (arith, t .0)))
         go false e ih =
-            gather-same (isChild s m) (λ c. union (single c) (belowAt s x f c)) (λ c. union (single c) (belowAt s x g c)) (nOf s) (λ c k t.
+            gather-same (isChild s m) (λ c. union (single c) (completedBelowAt s x f c)) (λ c. union (single c) (completedBelowAt s x g c)) (nOf s) (λ c k t.
             let a = child-above m c k t in
             ap (union (single c)) (ih c k (omega arith) (omega arith)))
 
-    pub below-serial : (m : ℕ) → m < nOf s → kind s m ≡ 1 → below s x m ≡ branch s x (kept s x m)
-    unfolding below belowAt branch
-    below-serial m l k = enough (nOf s) (suc (nOf s)) m l (omega arith) (omega arith) ∙ rw (eq-eqb (kind s m) 1 k)
+    pub completed-below-serial : (m : ℕ) → m < nOf s → kind s m ≡ 1 → completedBelow s x m ≡ branch s x (keptChild s x m)
+    unfolding completedBelow completedBelowAt branch
+    completed-below-serial m l k = enough (nOf s) (suc (nOf s)) m l (omega arith) (omega arith) ∙ rw (eq-eqb (kind s m) 1 k)
 
-    pub below-other : (m : ℕ) → m < nOf s → (kind s m ≡ 1 → ⊥) → below s x m ≡ gather (isChild s m) (branch s x) (nOf s)
-    unfolding below belowAt branch
-    below-other m l k = enough (nOf s) (suc (nOf s)) m l (omega arith) (omega arith) ∙ rw (ne-eqb (kind s m) 1 k)
+    pub completed-below-other : (m : ℕ) → m < nOf s → (kind s m ≡ 1 → ⊥) → completedBelow s x m ≡ gather (isChild s m) (branch s x) (nOf s)
+    unfolding completedBelow completedBelowAt branch
+    completed-below-other m l k = enough (nOf s) (suc (nOf s)) m l (omega arith) (omega arith) ∙ rw (ne-eqb (kind s m) 1 k)
 
     -- ---- what the code puts together
 
     -- the branch of a mode, from its set and what is below it
-    pub branch-of : (c b d : ℕ) → b ≡ single c → d ≡ below s x c → union b d ≡ branch s x c
+    pub branch-of : (c b d : ℕ) → b ≡ single c → d ≡ completedBelow s x c → union b d ≡ branch s x c
     unfolding branch
     branch-of c b d p q = rw (p, q)
 
-    pub serial-done : (m c b d : ℕ) → m < nOf s → kind s m ≡ 1 → c ≡ kept s x m → b ≡ single c → d ≡ below s x c → union b d ≡ below s x m
-    serial-done m c b d l k e p q = branch-of c b d p q ∙ ap (branch s x) e ∙ sym (below-serial m l k)
+    pub serial-done : (m c b d : ℕ) → m < nOf s → kind s m ≡ 1 → c ≡ keptChild s x m → b ≡ single c → d ≡ completedBelow s x c → union b d ≡ completedBelow s x m
+    serial-done m c b d l k e p q = branch-of c b d p q ∙ ap (branch s x) e ∙ sym (completed-below-serial m l k)
 
     -- the turn of the parallel mode's loop at c
-    pub turn-child : (m c r b d : ℕ) (t : Bool) → t ≡ isChild s m c → t ≡ true → r ≡ gather (isChild s m) (branch s x) c → b ≡ single c → d ≡ below s x c
+    pub turn-child : (m c r b d : ℕ) (t : Bool) → t ≡ isChild s m c → t ≡ true → r ≡ gather (isChild s m) (branch s x) c → b ≡ single c → d ≡ completedBelow s x c
         → union r (union b d) ≡ gather (isChild s m) (branch s x) (c + 1)
     turn-child m c r b d t e h i p q = rw (i, branch-of c b d p q) (sym (gather-hit (isChild s m) (branch s x) c (sym e ∙ h)))
 
@@ -161,49 +161,49 @@ module _ (s : List ℕ) (sd : Sound s) where
     pub turn-other : (m c r : ℕ) (t : Bool) → t ≡ isChild s m c → t ≡ false → r ≡ gather (isChild s m) (branch s x) c → r ≡ gather (isChild s m) (branch s x) (c + 1)
     turn-other m c r t e h i = i ∙ sym (gather-miss (isChild s m) (branch s x) c (sym e ∙ h))
 
-    pub turn-end : (m c r : ℕ) → m < nOf s → (kind s m ≡ 1 → ⊥) → c ≡ nOf s → r ≡ gather (isChild s m) (branch s x) c → r ≡ below s x m
-    turn-end m c r l k e i = i ∙ ap (gather (isChild s m) (branch s x)) e ∙ sym (below-other m l k)
+    pub turn-end : (m c r : ℕ) → m < nOf s → (kind s m ≡ 1 → ⊥) → c ≡ nOf s → r ≡ gather (isChild s m) (branch s x) c → r ≡ completedBelow s x m
+    turn-end m c r l k e i = i ∙ ap (gather (isChild s m) (branch s x)) e ∙ sym (completed-below-other m l k)
 
     -- ---- which modes are in a branch
 
-    branch-e : (m y : ℕ) → T (has (branch s x m) y) → (y ≡ m) ⊎ T (has (below s x m) y)
+    branch-e : (m y : ℕ) → T (has (branch s x m) y) → (y ≡ m) ⊎ T (has (completedBelow s x m) y)
     unfolding branch
-    branch-e m y h = go (union-e (single m) (below s x m) y h)
+    branch-e m y h = go (union-e (single m) (completedBelow s x m) y h)
       where
-        go : T (has (single m) y) ⊎ T (has (below s x m) y) → (y ≡ m) ⊎ T (has (below s x m) y)
+        go : T (has (single m) y) ⊎ T (has (completedBelow s x m) y) → (y ≡ m) ⊎ T (has (completedBelow s x m) y)
         go (inl a) = inl (single-e m y a)
         go (inr a) = inr a
 
     branch-top : (m : ℕ) → T (has (branch s x m) m)
     unfolding branch
-    branch-top m = union-l (single m) (below s x m) m (single-i m)
+    branch-top m = union-l (single m) (completedBelow s x m) m (single-i m)
 
-    branch-below : (m y : ℕ) → T (has (below s x m) y) → T (has (branch s x m) y)
+    branch-below : (m y : ℕ) → T (has (completedBelow s x m) y) → T (has (branch s x m) y)
     unfolding branch
-    branch-below m y h = union-r (single m) (below s x m) y h
+    branch-below m y h = union-r (single m) (completedBelow s x m) y h
 
     -- a child that m takes, and what its branch holds
-    below-e : (m y : ℕ) → m < nOf s → T (has (below s x m) y) → (c : ℕ) × Step m c × T (has (branch s x c) y)
-    below-e m y l h = go (eqb (kind s m) 1) refl
+    completed-below-e : (m y : ℕ) → m < nOf s → T (has (completedBelow s x m) y) → (c : ℕ) × Step m c × T (has (branch s x c) y)
+    completed-below-e m y l h = go (eqb (kind s m) 1) refl
       where
         go : (b : Bool) → eqb (kind s m) 1 ≡ b → (c : ℕ) × Step m c × T (has (branch s x c) y)
         go true e =
             let k = eqb-true (kind s m) 1 e in
-            (kept s x m, kept-step m l k, subst (λ (z : ℕ). T (has z y)) (below-serial m l k) h)
+            (keptChild s x m, kept-child-step m l k, subst (λ (z : ℕ). T (has z y)) (completed-below-serial m l k) h)
         go false e =
             let k = eqb-false (kind s m) 1 e in
-            let r = gather-e (isChild s m) (branch s x) (nOf s) y (subst (λ (z : ℕ). T (has z y)) (below-other m l k) h) in
+            let r = gather-e (isChild s m) (branch s x) (nOf s) y (subst (λ (z : ℕ). T (has z y)) (completed-below-other m l k) h) in
             (r .0, record { small = r .1; child = r .2; only = λ q. absurd (k q) }, r .3)
 
-    below-i : (m c y : ℕ) → m < nOf s → Step m c → T (has (branch s x c) y) → T (has (below s x m) y)
-    below-i m c y l t h = go (eqb (kind s m) 1) refl
+    completed-below-i : (m c y : ℕ) → m < nOf s → Step m c → T (has (branch s x c) y) → T (has (completedBelow s x m) y)
+    completed-below-i m c y l t h = go (eqb (kind s m) 1) refl
       where
-        go : (b : Bool) → eqb (kind s m) 1 ≡ b → T (has (below s x m) y)
+        go : (b : Bool) → eqb (kind s m) 1 ≡ b → T (has (completedBelow s x m) y)
         go true e =
             let k = eqb-true (kind s m) 1 e in
-            subst (λ (z : ℕ). T (has z y)) (sym (below-serial m l k ∙ ap (branch s x) (t .only k))) h
+            subst (λ (z : ℕ). T (has z y)) (sym (completed-below-serial m l k ∙ ap (branch s x) (t .only k))) h
         go false e =
-            subst (λ (z : ℕ). T (has z y)) (sym (below-other m l (eqb-false (kind s m) 1 e)))
+            subst (λ (z : ℕ). T (has z y)) (sym (completed-below-other m l (eqb-false (kind s m) 1 e)))
             (gather-i (isChild s m) (branch s x) (nOf s) y c (t .small) (t .child) h)
 
     -- with a mode of the branch, the children that it takes
@@ -211,13 +211,13 @@ module _ (s : List ℕ) (sd : Sound s) where
     branch-step zero m p c l b h t = absurd (omega arith)
     branch-step (suc k) m p c l b h t = go (branch-e m p h) (branch-step k)
       where
-        go : (p ≡ m) ⊎ T (has (below s x m) p)
+        go : (p ≡ m) ⊎ T (has (completedBelow s x m) p)
             → ((d q y : ℕ) → d < nOf s → nOf s ≤ k + d → T (has (branch s x d) q) → Step q y → T (has (branch s x d) y)) → T (has (branch s x m) c)
-        go (inl e) ih = branch-below m c (below-i m c c l (subst (λ (i : ℕ). Step i c) e t) (branch-top c))
+        go (inl e) ih = branch-below m c (completed-below-i m c c l (subst (λ (i : ℕ). Step i c) e t) (branch-top c))
         go (inr a) ih =
-            let r = below-e m p l a in
+            let r = completed-below-e m p l a in
             let d = r .0 in
-            branch-below m c (below-i m d c l (r .1) (ih d p c (r .1 .small) (omega (arith, child-above m d (r .1 .small) (r .1 .child))) (r .2) t))
+            branch-below m c (completed-below-i m d c l (r .1) (ih d p c (r .1 .small) (omega (arith, child-above m d (r .1 .small) (r .1 .child))) (r .2) t))
 
     -- ---- the branch is document 01's completion
 
@@ -226,17 +226,17 @@ module _ (s : List ℕ) (sd : Sound s) where
     unfolding brings
     brought p m l c h = record { small = l; child = c; only = go (or-e (eqb (kind s p) 2) (eqb (kind s p) 1 && eqb (first s p) m && not (some (nOf s) (λ i. isChild s p i && has x i))) h) }
       where
-        go : T (eqb (kind s p) 2) ⊎ T (eqb (kind s p) 1 && eqb (first s p) m && not (some (nOf s) (λ i. isChild s p i && has x i))) → kind s p ≡ 1 → kept s x p ≡ m
+        go : T (eqb (kind s p) 2) ⊎ T (eqb (kind s p) 1 && eqb (first s p) m && not (some (nOf s) (λ i. isChild s p i && has x i))) → kind s p ≡ 1 → keptChild s x p ≡ m
         go (inl a) k = absurd (omega (arith, eqb→eq (kind s p) 2 a))
-        go (inr a) k = at (kept-cases p)
+        go (inr a) k = at (kept-child-cases p)
           where
             is-first : first s p ≡ m
             is-first = eqb→eq (first s p) m (and-r (eqb (kind s p) 1) (eqb (first s p) m) (and-l (eqb (kind s p) 1 && eqb (first s p) m) (not (some (nOf s) (λ i. isChild s p i && has x i))) a))
 
-            at : Kept p → kept s x p ≡ m
+            at : KeptChild p → keptChild s x p ≡ m
             at (inl f) =
                 absurd (T-not (some (nOf s) (λ i. isChild s p i && has x i)) (and-r (eqb (kind s p) 1 && eqb (first s p) m) (not (some (nOf s) (λ i. isChild s p i && has x i))) a)
-                (some-i (nOf s) (λ i. isChild s p i && has x i) (kept s x p) (f .0) (f .1)))
+                (some-i (nOf s) (λ i. isChild s p i && has x i) (keptChild s x p) (f .0) (f .1)))
             at (inr f) = f .0 ∙ is-first
 
     -- a child that is taken is in x, or p brings it in
@@ -249,8 +249,8 @@ module _ (s : List ℕ) (sd : Sound s) where
         bring : T (brings s x p m) → Comp s x m
         bring b = down (r .0) (subst (λ (i : ℕ). T (brings s x i m)) (sym (r .1)) b) (subst (λ (i : ℕ). Comp s x i) (sym (r .1)) c)
 
-        serial : kind s p ≡ 1 → Kept p → Comp s x m
-        serial k (inl f) = base (subst (λ (i : ℕ). T (has x i)) (t .only k) (and-r (isChild s p (kept s x p)) (has x (kept s x p)) (f .1)))
+        serial : kind s p ≡ 1 → KeptChild p → Comp s x m
+        serial k (inl f) = base (subst (λ (i : ℕ). T (has x i)) (t .only k) (and-r (isChild s p (keptChild s x p)) (has x (keptChild s x p)) (f .1)))
         serial k (inr f) =
             bring (unfold brings in (or-r (eqb (kind s p) 2) (eqb (kind s p) 1 && eqb (first s p) m && not (some (nOf s) (λ i. isChild s p i && has x i)))
             (and-i (eqb (kind s p) 1 && eqb (first s p) m) (not (some (nOf s) (λ i. isChild s p i && has x i)))
@@ -258,7 +258,7 @@ module _ (s : List ℕ) (sd : Sound s) where
             (not-T (some (nOf s) (λ i. isChild s p i && has x i)) (λ h. let q = some-e (nOf s) (λ i. isChild s p i && has x i) h in f .1 (q .0) (q .1) (q .2))))))
 
         go : (kind s p ≡ 1) ⊎ (kind s p ≡ 2) → Comp s x m
-        go (inl k) = serial k (kept-cases p)
+        go (inl k) = serial k (kept-child-cases p)
         go (inr k) =
             bring (unfold brings in (or-l (eqb (kind s p) 2) (eqb (kind s p) 1 && eqb (first s p) m && not (some (nOf s) (λ i. isChild s p i && has x i))) (of-true (eq-eqb (kind s p) 2 k))))
 
@@ -267,22 +267,22 @@ module _ (s : List ℕ) (sd : Sound s) where
     branch-comp zero m y l b c h = absurd (omega arith)
     branch-comp (suc k) m y l b c h = go (branch-e m y h) (branch-comp k)
       where
-        go : (y ≡ m) ⊎ T (has (below s x m) y)
+        go : (y ≡ m) ⊎ T (has (completedBelow s x m) y)
             → ((d z : ℕ) → d < nOf s → nOf s ≤ k + d → Comp s x d → T (has (branch s x d) z) → (z < nOf s) × Comp s x z) → (y < nOf s) × Comp s x y
         go (inl e) ih = (subst (λ (i : ℕ). i < nOf s) (sym e) l, subst (λ (i : ℕ). Comp s x i) (sym e) c)
         go (inr a) ih =
-            let r = below-e m y l a in
+            let r = completed-below-e m y l a in
             let d = r .0 in
             ih d y (r .1 .small) (omega (arith, child-above m d (r .1 .small) (r .1 .child))) (taken m d (r .1) c) (r .2)
 
     module _ (e : ℕ) (en : e < nOf s) (b : Based s x e) where
       -- a serial mode with a child in x takes that child
       keeps : (p m : ℕ) → m < nOf s → T (isChild s p m) → T (has x m) → Step p m
-      keeps p m l c h = record { small = l; child = c; only = λ k. go (kept-cases p) }
+      keeps p m l c h = record { small = l; child = c; only = λ k. go (kept-child-cases p) }
         where
-          go : Kept p → kept s x p ≡ m
+          go : KeptChild p → keptChild s x p ≡ m
           go (inl f) =
-              let d = kept s x p in
+              let d = keptChild s x p in
               let r = isChild-e s p d (and-l (isChild s p d) (has x d) (f .1)) in
               let q = isChild-e s p m c in
               b .lone d m (f .0) l (r .0) (q .0) (r .1 ∙ sym (q .1)) (and-r (isChild s p d) (has x d) (f .1)) h

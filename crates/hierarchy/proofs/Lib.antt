@@ -2,3 +2,4 @@ pub mod Gather
 pub mod BelowLaws
 pub mod InsideLaws
 pub mod TransitionLaws
+pub mod ConsistentLaws

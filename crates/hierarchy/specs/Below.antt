@@ -18,23 +18,23 @@ gather p g (suc k) = let r = gather p g k in cond (p k) (union r (g k)) r
 
 module _ (s : List ℕ) (x : ℕ) where
   -- the child that serial mode m takes: its child in x, or else its first mode
-  unfoldable pub kept : ℕ → ℕ
-  kept m = last (λ c. isChild s m c && has x c) (first s m) (nOf s)
+  unfoldable pub keptChild : ℕ → ℕ
+  keptChild m = last (λ c. isChild s m c && has x c) (first s m) (nOf s)
 
   -- the modes that completing mode m, for the set x, puts below it: below a serial mode the child that it takes and what
   -- completing that one puts below it; below any other mode all its children, each with what completing it puts below it.
   -- f bounds the depth; n will do
-  unfoldable pub belowAt : ℕ → ℕ → ℕ
-  belowAt zero m = 0
-  belowAt (suc f) m =
-      let child = kept m in
-      let one = union (single child) (belowAt f child) in
-      let each = gather (isChild s m) (λ c. union (single c) (belowAt f c)) (nOf s) in
+  unfoldable pub completedBelowAt : ℕ → ℕ → ℕ
+  completedBelowAt zero m = 0
+  completedBelowAt (suc f) m =
+      let child = keptChild m in
+      let one = union (single child) (completedBelowAt f child) in
+      let each = gather (isChild s m) (λ c. union (single c) (completedBelowAt f c)) (nOf s) in
       cond (eqb (kind s m) 1) one each
 
-  unfoldable pub below : ℕ → ℕ
-  below m = belowAt (nOf s) m
+  unfoldable pub completedBelow : ℕ → ℕ
+  completedBelow m = completedBelowAt (nOf s) m
 
   -- mode m with what completing it puts below it
   unfoldable pub branch : ℕ → ℕ
-  branch m = union (single m) (below m)
+  branch m = union (single m) (completedBelow m)

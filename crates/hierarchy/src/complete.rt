@@ -7,7 +7,7 @@ ghost use Rattle.sets.specs.Sets.{has, single};
 ghost use Rattle.meaning.specs.Sheet.{nOf, kind, isChild};
 ghost use Rattle.meaning.specs.Check.{sheetRefusal};
 ghost use Rattle.meaning.specs.Hierarchy.{complete};
-ghost use Rattle.hierarchy.specs.Below.{kept, below, branch};
+ghost use Rattle.hierarchy.specs.Below.{keptChild, completedBelow, branch};
 use sets::modes::has;
 use sets::modes::single;
 use sheet::hierarchy::is_serial;
@@ -26,7 +26,7 @@ fn child_in(sheet: &[u32], x: u32, m: usize, c: usize) -> bool
 // The child that serial mode m takes: its child in the set x, or else its first mode.
 fn kept_child(sheet: &[u32], x: u32, m: usize) -> usize
     requires { ⌜ (sheetRefusal (now sheet) ≡ 0) × (m < nOf (now sheet)) ⌝ }
-    ensures { λ r. ⌜ r ≡ kept (now (sheet .entry)) x m ⌝ }
+    ensures { λ r. ⌜ r ≡ keptChild (now (sheet .entry)) x m ⌝ }
 {
     let n = mode_count(sheet);
     let mut r = first(sheet, m);
@@ -43,7 +43,7 @@ fn kept_child(sheet: &[u32], x: u32, m: usize) -> usize
 // The modes that completing serial mode m, for the set x, puts below it.
 fn serial_below(sheet: &[u32], x: u32, m: usize) -> u32
     requires { ⌜ (sheetRefusal (now sheet) ≡ 0) × (m < nOf (now sheet)) × (kind (now sheet) m ≡ 1) ⌝ }
-    ensures { λ r. ⌜ r ≡ below (now (sheet .entry)) x m ⌝ }
+    ensures { λ r. ⌜ r ≡ completedBelow (now (sheet .entry)) x m ⌝ }
 {
     let c = kept_child(sheet, x, m);
     if is_serial(sheet, c) {
@@ -56,7 +56,7 @@ fn serial_below(sheet: &[u32], x: u32, m: usize) -> u32
 // The modes that completing mode m, parallel or atomic, puts below it for the set x.
 fn parallel_below(sheet: &[u32], x: u32, m: usize) -> u32
     requires { ⌜ (sheetRefusal (now sheet) ≡ 0) × (m < nOf (now sheet)) × (kind (now sheet) m ≡ 1 → ⊥) ⌝ }
-    ensures { λ r. ⌜ r ≡ below (now (sheet .entry)) x m ⌝ }
+    ensures { λ r. ⌜ r ≡ completedBelow (now (sheet .entry)) x m ⌝ }
 {
     let n = mode_count(sheet);
     let mut r = 0u32;

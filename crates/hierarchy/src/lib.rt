@@ -1,4 +1,5 @@
-// What a transition exits and enters, and power-on's modes: worked out from the mode tree.
+// What a transition exits and enters, power-on's modes, and which sets are consistent: worked out from the mode tree.
 pub mod complete;
+pub mod consistent;
 pub mod inside;
 pub mod transition;

@@ -27,7 +27,9 @@ pub fn exited_by(sheet: &[u32], inside: &[u32; 32], t: usize) -> u32
 // The modes from c down to m, which c contains.
 fn path(sheet: &[u32], c: usize, m: usize) -> u32
     requires { ⌜ (sheetRefusal (now sheet) ≡ 0) × (m < nOf (now sheet)) × T (contains (now sheet) c m) ⌝ }
-    ensures { λ r. ⌜ r ≡ setOf (nOf (now (sheet .entry))) (λ y. contains (now (sheet .entry)) c y && contains (now (sheet .entry)) y m) ⌝ }
+    ensures { λ r. ⌜ r ≡ setOf (nOf (now (sheet .entry))) (λ y.
+        contains (now (sheet .entry)) c y
+        && contains (now (sheet .entry)) y m) ⌝ }
 {
     let mut x = m;
     let mut r = single(m);

@@ -10,7 +10,7 @@ use native.Mathlib.Omega.{arith}
 use lib.ListN.{length, getD, set, take, drop, length-append, length-set, List·getD-append}
 use lib.Seq.{length-take-le, ext-getD, getD-take, getD-drop, getD-append-add, getD-set-same, getD-set-other}
 use Rattle.rows.specs.Over.{over}
-use Rattle.rows.proofs.Laws.{length-over, over-nil, over-sets}
+use Rattle.rows.proofs.OverLaws.{length-over, over-nil, over-sets}
 use Rattle.meaning.specs.Lists.{rowFrom}
 use Rattle.meaning.proofs.ListLaws.{rowFrom-at, rowFrom-length}
 use Rattle.planner.specs.Parts.{WordsAt}

@@ -23,7 +23,7 @@ use Rattle.meaning.specs.Reaction.{TickSets, isDelay, holds, alternativeFrom, a
 use Rattle.meaning.proofs.ListLaws.{getD-true-lt}
 use Rattle.meaning.proofs.SheetLaws.{sound, n-le, k-le, t-le}
 use Rattle.sheet.specs.Reading.{Record}
-use Rattle.sheet.proofs.Laws.{placed}
+use Rattle.sheet.proofs.SheetTestLaws.{placed}
 use Rattle.reaction.specs.Plan.{isEventKind, eventsOnly}
 use Rattle.reaction.specs.Facts.{factsOf, holdsBy, alternativeByFrom, alternativeBy}
 

@@ -1,6 +1,6 @@
-pub mod RowLaws
+pub mod RowStoreLaws
 pub mod TimerLaws
-pub mod StateLaws
-pub mod BlockLaws
+pub mod TableStateLaws
+pub mod BlockPlaceLaws
 pub mod RestartLaws
 pub mod RunLaws

@@ -20,7 +20,7 @@ use Rattle.meaning.specs.TableRun.{stateAfterCell, isStale}
 use Rattle.meaning.proofs.RunLaws.{next-reading, due-at}
 use Rattle.table.proofs.Sound.{t-le, delay-pos, source-lt}
 use Rattle.recorder.specs.Timers.{timersBelow, timersFrom}
-use Rattle.recorder.proofs.RowLaws.{row-at}
+use Rattle.recorder.proofs.RowStoreLaws.{row-at}
 
 -- ---- general
 

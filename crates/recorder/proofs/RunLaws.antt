@@ -16,7 +16,7 @@ use Rattle.sets.proofs.Tests.{is-true, of-true, and-l, and-r, or-e, cond-ext}
 use Rattle.sets.proofs.Facts.{every-e, has-lt}
 use Rattle.sets.proofs.Membership.{has-none, has-meet}
 use Rattle.rows.specs.Over.{over}
-use Rattle.rows.proofs.Laws.{length-over}
+use Rattle.rows.proofs.OverLaws.{length-over}
 use Rattle.meaning.specs.Lists.{rowFrom, overwritten}
 use Rattle.meaning.specs.Run.{State, reading, isFresh, readingsOk, dueTimers, nextReadings, stops, outputShort, inputForeign, Run, ran}
 use Rattle.meaning.specs.Table.{wordIn, kIn, bIn, sourceIn, delayIn, offsetIn, timersIn, cellsIn, cellWord, tableOk}
@@ -29,7 +29,7 @@ use Rattle.run.proofs.DeadlineLaws.{readingsFrom, due-deadlines, readings-word,
 use Rattle.run.proofs.RunPlaces.{input-foreign, input-below, input-fits, placed, placed-all, placed-stops, placed-more}
 use Rattle.table.proofs.Sound.{b-pos, timers-first, timers-few, timer-lt, delay-pos, delay-lt, cell-lt, cell-inside, next-lt}
 use Rattle.recorder.specs.Timers.{delayOr0, timersFrom}
-use Rattle.recorder.proofs.RowLaws.{row-at}
+use Rattle.recorder.proofs.RowStoreLaws.{row-at}
 use Rattle.recorder.proofs.TimerLaws.{delay-at}
 use Rattle.recorder.proofs.RestartLaws.{started-there, none-entered, reading-after, reading-left, stale-is, stays}
 

@@ -17,7 +17,7 @@ use Rattle.meaning.specs.Table.{tIn, sourceIn, delayIn, tableOk}
 use Rattle.meaning.proofs.ListLaws.{rowFrom-ext}
 use Rattle.table.proofs.Sound.{delay-lt}
 use Rattle.recorder.specs.Timers.{delayOr0, timersBelow, timersFrom}
-use Rattle.recorder.proofs.RowLaws.{row-at, row-zeros, row-set}
+use Rattle.recorder.proofs.RowStoreLaws.{row-at, row-zeros, row-set}
 
 module _ (w : List ℕ) where
   -- ---- the delays

@@ -2,4 +2,4 @@ pub mod ArrayLaws
 pub mod ReadingLaws
 pub mod DeadlineLaws
 pub mod RunPlaces
-pub mod DueLaws
+pub mod DueNumberLaws

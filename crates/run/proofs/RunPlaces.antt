@@ -12,7 +12,7 @@ use lib.Pow.{pow-pos}
 use borrow.Author.Tests.{le-leb, lt-leb}
 use Rattle.sets.proofs.Tests.{is-true, of-true}
 use Rattle.rows.specs.Over.{over}
-use Rattle.rows.proofs.Laws.{over-more, over-nil, over-front}
+use Rattle.rows.proofs.OverLaws.{over-more, over-nil, over-front}
 use Rattle.meaning.specs.Lists.{overwritten}
 use Rattle.meaning.specs.Run.{State, Ticks, stops, tickThen, inputForeign, Run, ran}
 

@@ -18,7 +18,7 @@ use Rattle.meaning.proofs.SheetLaws.{Rooted, rooted, parent-le, parent-n, paren
 use Rattle.meaning.proofs.Containment.{here, contains-i}
 use Rattle.meaning.proofs.Fuel.{contains-same, meeting-climbs, child-climbs, climb-same, climb-found, climb-step}
 use Rattle.sheet.specs.Reading.{Tree}
-use Rattle.sheet.proofs.Laws.{head-of}
+use Rattle.sheet.proofs.SheetTestLaws.{head-of}
 
 pub rooted-tree : {s : List ℕ} → Tree s → Rooted s
 unfolding modesOk

@@ -1,3 +1,3 @@
-pub mod Laws
+pub mod SheetTestLaws
 pub mod Climb
 pub mod Past

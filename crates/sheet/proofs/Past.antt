@@ -13,7 +13,7 @@ use Rattle.meaning.specs.Sheet.{nOf, tOf, endBefore, termCount}
 use Rattle.meaning.specs.Check.{headOk, modeOk, modesOk, pairOk, pairsOk, sheetRefusal}
 use Rattle.meaning.proofs.SheetLaws.{sound, n-le}
 use Rattle.sheet.specs.Reading.{Row, Pair, Record, Term, Tree}
-use Rattle.sheet.proofs.Laws.{placed}
+use Rattle.sheet.proofs.SheetTestLaws.{placed}
 
 module _ (s : List ℕ) (h : sheetRefusal s ≡ 0) where
   pub head-read : T (headOk s)

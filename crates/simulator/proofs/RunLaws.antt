@@ -17,7 +17,7 @@ use Rattle.sets.proofs.Facts.{setOf-i, those-e}
 use Rattle.sets.proofs.Membership.{has-none, has-meet, has-those, those-lt, lt-of-members}
 use Rattle.sets.proofs.Members.{empty}
 use Rattle.rows.specs.Over.{over}
-use Rattle.rows.proofs.Laws.{length-over}
+use Rattle.rows.proofs.OverLaws.{length-over}
 use Rattle.meaning.specs.Lists.{rowFrom, overwritten}
 use Rattle.meaning.specs.Sheet.{kOf, tOf, source}
 use Rattle.meaning.specs.Check.{sheetRefusal}

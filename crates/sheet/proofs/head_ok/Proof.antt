@@ -7,7 +7,7 @@ use borrow.Author.Tests.{ltb-true, ltb-false, lt-leb}
 use Rattle.meaning.specs.Sheet.{word, nOf, kOf, tOf}
 use Rattle.meaning.specs.Check.{headOk}
 use Rattle.meaning.proofs.ListLaws.{allOf-fails}
-use Rattle.sheet.proofs.Laws.{headOk-is}
+use Rattle.sheet.proofs.SheetTestLaws.{headOk-is}
 use Rattle.sheet.proofs.head_ok.Statement.{statement}
 use Rattle.sheet.proofs.head_ok.Tie as tie
 

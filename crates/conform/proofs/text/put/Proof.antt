@@ -2,7 +2,7 @@
 -- Assumes nothing.
 use borrow.Author.Needs.{needs}
 use Prim.Native.Nat.{_≤_, _<_, _-_}
-use Rattle.conform.proofs.Digits.{digits-le}
+use Rattle.conform.proofs.TwentyDigits.{digits-le}
 use Rattle.conform.proofs.text.put.Statement.{statement}
 use Rattle.conform.proofs.text.put.Tie as tie
 

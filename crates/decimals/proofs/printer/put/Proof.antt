@@ -7,7 +7,7 @@ use Prim.Native.Nat.{ℕ, _+_, _-_, _^_, _≤_, _<_}
 use native.Mathlib.Omega.{arith}
 use lib.ListN.{length, getD, take, set, length-set}
 use Rattle.rows.specs.Over.{over}
-use Rattle.rows.proofs.Laws.{over-nil}
+use Rattle.rows.proofs.OverLaws.{over-nil}
 use Rattle.decimals.proofs.Digits.{few-digits, decimal-is, decimal-length}
 use Rattle.decimals.proofs.Lines.{copy-turn}
 use Rattle.decimals.proofs.printer.put.Statement.{statement}

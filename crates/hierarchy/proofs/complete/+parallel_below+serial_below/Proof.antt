@@ -11,7 +11,7 @@ use Rattle.meaning.specs.Sheet.{nOf, isChild}
 use Rattle.meaning.proofs.SheetLaws.{sound}
 use Rattle.hierarchy.specs.Below.{gather, branch}
 use Rattle.sheet.proofs.Past.{head-read, mode-small, row-read}
-use Rattle.hierarchy.proofs.BelowLaws.{serial-of, other-of, kept-next, serial-done, turn-start, turn-child, turn-other, turn-end}
+use Rattle.hierarchy.proofs.BelowLaws.{serial-of, other-of, kept-child-next, serial-done, turn-start, turn-child, turn-other, turn-end}
 use Rattle.hierarchy.proofs.complete.parallel_below.Reads as parallel-below
 use Rattle.hierarchy.proofs.complete.parallel_below.Kinds as parallel-below-kinds
 use Rattle.hierarchy.proofs.complete.+parallel_below+serial_below.Lts-parallel_below as parallel-below-lts
@@ -151,7 +151,7 @@ serial-mode : (t : ℕ) (c : serial-below-lts.After-kept-child (serial-calls t) 
     → (c .kept-child .result < nOf (c .before .before .args .sheet .now)) × (32 - c .kept-child .result < t)
 serial-mode t c =
     let p = c .before .before .pre in
-    let k = kept-next _ (sound _ (p .1 .0)) _ _ _ (p .1 .1) (p .1 .2) (c .kept-child .ensures) in
+    let k = kept-child-next _ (sound _ (p .1 .0)) _ _ _ (p .1 .1) (p .1 .2) (c .kept-child .ensures) in
     (k .1, omega (arith, p .0, k .0, mode-small _ (p .1 .0) _ (k .1)))
 
 serial-below-kept-child-requires : (t : ℕ) → serial-below-lts.Need-kept-child-requires (serial-calls t) (serial-below-at t) serial-below.Post

@@ -7,12 +7,12 @@ use native.Mathlib.Omega.{arith}
 use Rattle.meaning.specs.Sheet.{nOf}
 use Rattle.meaning.proofs.SheetLaws.{sound}
 use Rattle.sheet.proofs.Past.{head-read, row-read}
-use Rattle.hierarchy.proofs.BelowLaws.{keptTo, kept-start, kept-hit, kept-miss, kept-end}
+use Rattle.hierarchy.proofs.BelowLaws.{keptChildSoFar, kept-child-start, kept-child-hit, kept-child-miss, kept-child-end}
 use Rattle.hierarchy.proofs.complete.kept_child.Statement.{statement}
 use Rattle.hierarchy.proofs.complete.kept_child.Tie as tie
 
 abbrev Inv-loop : tie.InvT-loop
-Inv-loop sheet x m n r₀ c₀ r c = (r ≡ keptTo sheet x m c) × (m < c) × (c ≤ n)
+Inv-loop sheet x m n r₀ c₀ r c = (r ≡ keptChildSoFar sheet x m c) × (m < c) × (c ≤ n)
 
 abbrev μ-loop : tie.MeasureT-loop
 μ-loop sheet x m n r₀ c₀ r c = n - c
@@ -29,7 +29,7 @@ add-c c = omega arith
 loop-holds : tie.Need-loop-holds Inv-loop μ-loop
 loop-holds c =
     let p = c .before .before .before .pre in
-    (kept-start _ (sound _ (p .0)) _ _ _ (p .1) (c .first .ensures), omega arith, omega arith)
+    (kept-child-start _ (sound _ (p .0)) _ _ _ (p .1) (c .first .ensures), omega arith, omega arith)
 
 child-in-requires : tie.Need-child-in-requires Inv-loop μ-loop
 child-in-requires c κs = (c .before .before .before .before .before .pre .0, omega arith)
@@ -46,8 +46,8 @@ loop-again c =
     let a = c .before .before .before .before .before .before .before .args in
     let sd = sound _ (c .before .before .before .before .before .before .before .pre .0) in
     let e = c .before .child-in .ensures in (
-      ⊎-elim (λ w. w .1 ∙ kept-hit _ sd (a .x) (a .m) (l .c) _ e (w .0 .taken))
-          (λ w. w .1 ∙ kept-miss _ sd (a .x) (a .m) (l .c) (l .r) _ e (w .0 .left) (l .inv .0))
+      ⊎-elim (λ w. w .1 ∙ kept-child-hit _ sd (a .x) (a .m) (l .c) _ e (w .0 .taken))
+          (λ w. w .1 ∙ kept-child-miss _ sd (a .x) (a .m) (l .c) (l .r) _ e (w .0 .left) (l .inv .0))
           (c .if1 .came),
       omega arith,
       omega arith,
@@ -58,7 +58,7 @@ returns c =
     let l = c .before .loop in
     let s = c .before .before .before .before .before in
     let e : l .c ≡ nOf (s .args .sheet .now) = omega arith in
-    kept-end _ (sound _ (s .pre .0)) (s .args .x) (s .args .m) (l .c) (l .r) e (l .inv .0)
+    kept-child-end _ (sound _ (s .pre .0)) (s .args .x) (s .args .m) (l .c) (l .r) e (l .inv .0)
 
 pub kept-child-spec : {M : Type 1} → statement M
 kept-child-spec =

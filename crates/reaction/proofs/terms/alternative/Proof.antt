@@ -10,7 +10,7 @@ use lib.ListN.{length, getD}
 use borrow.Author.Needs.{needs}
 use Rattle.meaning.specs.Sheet.{tOf, termCount, termKind, termValue}
 use Rattle.meaning.specs.Check.{sheetRefusal}
-use Rattle.sheet.proofs.Laws.{placed, term-room}
+use Rattle.sheet.proofs.SheetTestLaws.{placed, term-room}
 use Rattle.reaction.specs.Facts.{holdsBy, alternativeByFrom, alternativeBy}
 use Rattle.sheet.proofs.Past.{pair-read, record-read, term-read}
 use Rattle.reaction.proofs.TermLaws.{kind-word, value-word, count-le, term-asks, or-found, or-next, term-next, terms-end}

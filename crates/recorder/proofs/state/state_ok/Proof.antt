@@ -9,8 +9,8 @@ use Rattle.sets.proofs.Tests.{of-true}
 use Rattle.meaning.specs.Run.{readingsOk}
 use Rattle.meaning.specs.Table.{bIn}
 use Rattle.table.proofs.Sound.{head-sound}
-use Rattle.recorder.proofs.BlockLaws.{header-inside, timers-are}
-use Rattle.recorder.proofs.StateLaws.{state-outside, state-inside}
+use Rattle.recorder.proofs.BlockPlaceLaws.{header-inside, timers-are}
+use Rattle.recorder.proofs.TableStateLaws.{state-outside, state-inside}
 use Rattle.recorder.proofs.state.state_ok.Statement.{statement}
 use Rattle.recorder.proofs.state.state_ok.Tie as tie
 

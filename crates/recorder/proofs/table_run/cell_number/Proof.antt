@@ -3,7 +3,7 @@ use mathlib.Core.Path.{ap}
 use borrow.Author.Needs.{needs}
 use Prim.Native.Nat.{ℕ, _+_}
 use native.Mathlib.Omega.{arith}
-use Rattle.recorder.proofs.BlockLaws.{due-shl, cell-small}
+use Rattle.recorder.proofs.BlockPlaceLaws.{due-shl, cell-small}
 use Rattle.recorder.proofs.table_run.cell_number.Statement.{statement}
 use Rattle.recorder.proofs.table_run.cell_number.Tie as tie
 

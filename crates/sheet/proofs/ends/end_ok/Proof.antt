@@ -7,7 +7,7 @@ use mathlib.Core.Bool.{not}
 use borrow.Author.Tests.{leb-true, leb-false, le-ltb}
 use Rattle.meaning.specs.Check.{endOk}
 use Rattle.meaning.proofs.ListLaws.{allOf-fails}
-use Rattle.sheet.proofs.Laws.{endOk-is}
+use Rattle.sheet.proofs.SheetTestLaws.{endOk-is}
 use Rattle.sheet.proofs.ends.end_ok.Statement.{statement}
 use Rattle.sheet.proofs.ends.end_ok.Tie as tie
 

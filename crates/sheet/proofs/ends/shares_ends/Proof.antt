@@ -11,7 +11,7 @@ use borrow.Author.Tests.{eqb-true, eqb-false}
 use Rattle.sets.specs.Sets.{some}
 use Rattle.meaning.specs.Sheet.{source, target}
 use Rattle.meaning.specs.Check.{sharesEnds}
-use Rattle.sheet.proofs.Laws.{ends-same, source-other, target-other}
+use Rattle.sheet.proofs.SheetTestLaws.{ends-same, source-other, target-other}
 use Rattle.sets.proofs.Loops.{some-start, some-next, some-found, some-done}
 use Rattle.sheet.proofs.ends.shares_ends.Statement.{statement}
 use Rattle.sheet.proofs.ends.shares_ends.Tie as tie

@@ -4,7 +4,7 @@ use borrow.Author.Needs.{needs}
 use mathlib.Core.Path.{sym, ap, _∙_}
 use Prim.Native.Nat.{_+_, _*_, _-_}
 use Rattle.meaning.specs.Sheet.{nOf, word, offset, recordLength, endBefore}
-use Rattle.sheet.proofs.Laws.{end-after}
+use Rattle.sheet.proofs.SheetTestLaws.{end-after}
 use Rattle.sheet.proofs.pairs.end_before.Statement.{statement}
 use Rattle.sheet.proofs.pairs.end_before.Tie as tie
 

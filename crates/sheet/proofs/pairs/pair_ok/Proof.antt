@@ -3,7 +3,7 @@ use borrow.Author.Needs.{needs}
 use mathlib.Core.Path.{refl}
 use mathlib.Core.Logic.{⊎-elim}
 use borrow.Author.Tests.{eq-eqb, ne-eqb}
-use Rattle.sheet.proofs.Laws.{pairOk-is}
+use Rattle.sheet.proofs.SheetTestLaws.{pairOk-is}
 use Rattle.sets.proofs.Loops.{and-on, and-off}
 use Rattle.sheet.proofs.pairs.pair_ok.Statement.{statement}
 use Rattle.sheet.proofs.pairs.pair_ok.Tie as tie

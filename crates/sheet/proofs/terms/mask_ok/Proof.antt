@@ -1,7 +1,7 @@
 -- `sheet::terms::mask_ok` meets its contract. Assumes nothing.
 use borrow.Author.Needs.{needs}
 use borrow.Author.Tests.{lt-ltb, le-ltb}
-use Rattle.sheet.proofs.Laws.{shifted-none}
+use Rattle.sheet.proofs.SheetTestLaws.{shifted-none}
 use Rattle.sheet.proofs.terms.mask_ok.Statement.{statement}
 use Rattle.sheet.proofs.terms.mask_ok.Tie as tie
 

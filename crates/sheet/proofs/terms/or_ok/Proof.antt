@@ -4,7 +4,7 @@ use borrow.Author.Needs.{needs}
 use mathlib.Core.Logic.{⊎-elim}
 use mathlib.Core.Path.{refl}
 use borrow.Author.Tests.{eq-eqb, ne-eqb}
-use Rattle.sheet.proofs.Laws.{term-room, orOk-is}
+use Rattle.sheet.proofs.SheetTestLaws.{term-room, orOk-is}
 use Rattle.sets.proofs.Loops.{and-on, and-off, and-last}
 use Rattle.sheet.proofs.terms.or_ok.Statement.{statement}
 use Rattle.sheet.proofs.terms.or_ok.Tie as tie

@@ -3,7 +3,7 @@ use native.Mathlib.Omega.{arith}
 use borrow.Author.Needs.{needs}
 use mathlib.Core.Path.{sym, _∙_}
 use borrow.Author.Tests.{eq-eqb, ne-eqb}
-use Rattle.sheet.proofs.Laws.{head-of, delay-term, event-term, mask-term, mode-term, transition-term, or-term, other-term}
+use Rattle.sheet.proofs.SheetTestLaws.{head-of, delay-term, event-term, mask-term, mode-term, transition-term, or-term, other-term}
 use Rattle.sheet.proofs.terms.term_ok.Statement.{statement}
 use Rattle.sheet.proofs.terms.term_ok.Tie as tie
 

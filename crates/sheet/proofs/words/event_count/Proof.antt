@@ -2,7 +2,7 @@
 use mathlib.Core.Path.{refl}
 use native.Mathlib.Omega.{arith}
 use Rattle.meaning.specs.Sheet.{word, kOf}
-use Rattle.sheet.proofs.Laws.{head-of}
+use Rattle.sheet.proofs.SheetTestLaws.{head-of}
 use Rattle.sheet.proofs.words.event_count.Statement.{statement}
 use Rattle.sheet.proofs.words.event_count.Tie as tie
 

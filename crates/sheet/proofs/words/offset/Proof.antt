@@ -2,7 +2,7 @@
 use native.Mathlib.Omega.{arith}
 use borrow.Author.Needs.{needs}
 use Rattle.meaning.specs.Sheet.{word, offset}
-use Rattle.sheet.proofs.Laws.{head-of}
+use Rattle.sheet.proofs.SheetTestLaws.{head-of}
 use Rattle.sheet.proofs.words.offset.Statement.{statement}
 use Rattle.sheet.proofs.words.offset.Tie as tie
 

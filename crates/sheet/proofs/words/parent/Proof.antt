@@ -2,7 +2,7 @@
 use native.Mathlib.Omega.{arith}
 use borrow.Author.Needs.{needs}
 use Rattle.meaning.specs.Sheet.{word, parent}
-use Rattle.sheet.proofs.Laws.{head-of}
+use Rattle.sheet.proofs.SheetTestLaws.{head-of}
 use Rattle.sheet.proofs.words.parent.Statement.{statement}
 use Rattle.sheet.proofs.words.parent.Tie as tie
 

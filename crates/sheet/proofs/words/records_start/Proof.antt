@@ -1,7 +1,7 @@
 -- `sheet::words::records_start` meets its contract. Assumes nothing.
 use native.Mathlib.Omega.{arith}
 use borrow.Author.Needs.{needs}
-use Rattle.sheet.proofs.Laws.{head-of}
+use Rattle.sheet.proofs.SheetTestLaws.{head-of}
 use Rattle.sheet.proofs.words.records_start.Statement.{statement}
 use Rattle.sheet.proofs.words.records_start.Tie as tie
 

@@ -2,7 +2,7 @@
 use native.Mathlib.Omega.{arith}
 use borrow.Author.Needs.{needs}
 use Rattle.meaning.specs.Sheet.{word, target}
-use Rattle.sheet.proofs.Laws.{placed}
+use Rattle.sheet.proofs.SheetTestLaws.{placed}
 use Rattle.sheet.proofs.words.target.Statement.{statement}
 use Rattle.sheet.proofs.words.target.Tie as tie
 

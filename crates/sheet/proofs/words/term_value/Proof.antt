@@ -2,7 +2,7 @@
 use native.Mathlib.Omega.{arith}
 use borrow.Author.Needs.{needs}
 use Rattle.meaning.specs.Sheet.{word, termValue}
-use Rattle.sheet.proofs.Laws.{term-room}
+use Rattle.sheet.proofs.SheetTestLaws.{term-room}
 use Rattle.sheet.proofs.words.term_value.Statement.{statement}
 use Rattle.sheet.proofs.words.term_value.Tie as tie
 

@@ -1,4 +1,4 @@
--- `simulator::state::is_consistent` meets its contract: modes below n only, the root, and every member as it must be.
+-- `hierarchy::consistent::is_consistent` meets its contract: modes below n only, the root, and every member as it must be.
 -- Assumes nothing.
 use mathlib.Core.Path.{_≡_, sym, ap, _∙_}
 use mathlib.Core.Logic.{⊎-elim}
@@ -10,10 +10,10 @@ use Rattle.sets.specs.Sets.{has, below, everyIn}
 use Rattle.meaning.specs.Sheet.{nOf}
 use Rattle.meaning.proofs.SheetLaws.{sound, n-pos, n-le}
 use Rattle.sheet.proofs.Past.{head-read}
-use Rattle.simulator.proofs.StateLaws.{consistent-not-below, consistent-rootless, below-lt-n, consistent-members}
+use Rattle.hierarchy.proofs.ConsistentLaws.{consistent-not-below, consistent-rootless, below-lt-n, consistent-members}
 use borrow.Author.Needs.{needs}
-use Rattle.simulator.proofs.state.is_consistent.Statement.{statement}
-use Rattle.simulator.proofs.state.is_consistent.Tie as tie
+use Rattle.hierarchy.proofs.consistent.is_consistent.Statement.{statement}
+use Rattle.hierarchy.proofs.consistent.is_consistent.Tie as tie
 
 mode-count-requires : tie.Need-mode-count-requires
 mode-count-requires c κs = head-read _ (c .before .pre)

@@ -1,4 +1,4 @@
--- `simulator::state::member_ok` meets its contract: each way out is a case of the member's kind. Assumes nothing.
+-- `hierarchy::consistent::member_ok` meets its contract: each way out is a case of the member's kind. Assumes nothing.
 use mathlib.Core.Path.{_≡_, sym, ap, _∙_}
 use mathlib.Core.Bool.{Bool}
 use Prim.Native.Nat.{ℕ}
@@ -9,10 +9,10 @@ use Rattle.sets.specs.Sets.{has, meet, size, everyIn}
 use Rattle.meaning.proofs.SheetLaws.{parent-le, sound, n-le, tree}
 use Rattle.meaning.specs.Sheet.{parent}
 use Rattle.sheet.proofs.Past.{row-read}
-use Rattle.simulator.proofs.StateLaws.{member-orphan, member-serial, member-parallel, member-atomic}
+use Rattle.hierarchy.proofs.ConsistentLaws.{member-orphan, member-serial, member-parallel, member-atomic}
 use borrow.Author.Needs.{needs}
-use Rattle.simulator.proofs.state.member_ok.Statement.{statement}
-use Rattle.simulator.proofs.state.member_ok.Tie as tie
+use Rattle.hierarchy.proofs.consistent.member_ok.Statement.{statement}
+use Rattle.hierarchy.proofs.consistent.member_ok.Tie as tie
 
 parent-requires : tie.Need-parent-requires
 parent-requires c κs = row-read _ (c .before .pre .0) _ (c .before .pre .1)

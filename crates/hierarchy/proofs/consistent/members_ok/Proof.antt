@@ -1,4 +1,4 @@
--- `simulator::state::members_ok` meets its contract: the members left are as they must be just if all are. Assumes
+-- `hierarchy::consistent::members_ok` meets its contract: the members left are as they must be just if all are. Assumes
 -- nothing.
 use mathlib.Core.Path.{_≡_, refl, sym, _∙_}
 use borrow.Author.Needs.{needs}
@@ -12,9 +12,9 @@ use Rattle.sets.proofs.Those.{Subset, subset-turn}
 use Rattle.meaning.specs.Sheet.{nOf}
 use Rattle.meaning.specs.Hierarchy.{memberOk}
 use Rattle.sets.proofs.Widths.{everyIn-width, everyIn-turn, everyIn-fails, everyIn-none}
-use Rattle.simulator.proofs.StateLaws.{fits-32}
-use Rattle.simulator.proofs.state.members_ok.Statement.{statement}
-use Rattle.simulator.proofs.state.members_ok.Tie as tie
+use Rattle.hierarchy.proofs.ConsistentLaws.{fits-32}
+use Rattle.hierarchy.proofs.consistent.members_ok.Statement.{statement}
+use Rattle.hierarchy.proofs.consistent.members_ok.Tie as tie
 
 abbrev Inv-loop : tie.InvT-loop
 Inv-loop sheet x rest₀ rest =

@@ -1,4 +1,4 @@
--- `simulator::state::children_of` meets its contract: the children among the modes passed are found. Assumes nothing.
+-- `hierarchy::consistent::children_of` meets its contract: the children among the modes passed are found. Assumes nothing.
 use mathlib.Core.Path.{_≡_, _∙_}
 use mathlib.Core.Logic.{⊎-elim}
 use borrow.Author.Needs.{needs}
@@ -11,8 +11,8 @@ use Rattle.meaning.specs.Sheet.{isChild}
 use Rattle.meaning.specs.Hierarchy.{children}
 use Rattle.meaning.proofs.SheetLaws.{sound, n-le}
 use Rattle.sheet.proofs.Past.{head-read, row-read}
-use Rattle.simulator.proofs.state.children_of.Statement.{statement}
-use Rattle.simulator.proofs.state.children_of.Tie as tie
+use Rattle.hierarchy.proofs.consistent.children_of.Statement.{statement}
+use Rattle.hierarchy.proofs.consistent.children_of.Tie as tie
 
 abbrev Inv-loop : tie.InvT-loop
 Inv-loop sheet m n r₀ c₀ r c = (c ≤ n) × (r ≡ setOf c (isChild sheet m))
