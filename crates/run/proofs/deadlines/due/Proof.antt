@@ -10,7 +10,7 @@ use lib.ListN.{getD}
 use Rattle.sets.specs.Sets.{minus, single, lowest, members}
 use Rattle.sets.proofs.Members.{Turn, turn}
 use Rattle.meaning.specs.TableRun.{dueNumber}
-use Rattle.run.proofs.DueLaws.{Counted, counted-start, place-small, number-small, counted-turn, counted-done}
+use Rattle.run.proofs.DueNumberLaws.{Counted, counted-start, place-small, number-small, counted-turn, counted-done}
 use Rattle.run.proofs.deadlines.due.Statement.{statement}
 use Rattle.run.proofs.deadlines.due.Tie as tie
 
