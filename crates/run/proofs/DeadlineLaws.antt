@@ -1,4 +1,4 @@
--- Readings by deadlines: the reading of a timer that runs is its deadline less the ticks done. Assumes nothing.
+-- States by deadlines: the reading of a timer that runs is its deadline less the ticks done. Assumes nothing.
 use mathlib.Core.Path.{_≡_, sym, ap, _∙_, subst}
 use mathlib.Core.Bool.{Bool, true, false, _&&_, cond}
 use mathlib.Core.List.{List}
@@ -12,13 +12,18 @@ use Rattle.sets.specs.Sets.{has, those}
 use Rattle.sets.proofs.Tests.{is-true, of-true, and-l, and-r, bool-ext, cond-ext}
 use Rattle.sets.proofs.Membership.{those-same}
 use Rattle.meaning.specs.Lists.{rowFrom}
-use Rattle.meaning.specs.Run.{reading, dueTimers}
+use Rattle.meaning.specs.Run.{State, reading, dueTimers, nextReadings, nextState}
 use Rattle.meaning.proofs.ListLaws.{rowFrom-at, rowFrom-ext, rowFrom-getD}
-use Rattle.run.proofs.ReadingLaws.{readingFits}
+use Rattle.run.specs.States.{stateBy}
+use Rattle.run.proofs.ReadingTests.{readingFits}
 
 -- the readings after i ticks, of timers with these deadlines
 abbrev pub readingsFrom : ℕ → List ℕ → ℕ → List ℕ
 readingsFrom timers ends i = rowFrom 0 64 (λ t. cond (has timers t) (getD ends t 0 - i) 0)
+
+-- the state after i ticks in a mode set (or block)
+abbrev pub stateFrom : ℕ → ℕ → List ℕ → ℕ → State
+stateFrom at timers ends i = record { at = at; readings = readingsFrom timers ends i }
 
 module _ (timers : ℕ) (ends : List ℕ) (i : ℕ) where
   pub reading-from : (t : ℕ) → t < 64 → T (has timers t) → getD (readingsFrom timers ends i) t 0 ≡ getD ends t 0 - i
@@ -27,10 +32,10 @@ module _ (timers : ℕ) (ends : List ℕ) (i : ℕ) where
       rowFrom-at f 0 0 64 t l ∙ ap f (zero-add t) ∙ ap (λ (b : Bool). cond b (getD ends t 0 - i) 0) (is-true (has timers t) h)
 
   -- a timer is due in the tick of its deadline
-  pub due-deadlines : ((t : ℕ) → t < 64 → T (has timers t) → i < getD ends t 0) → (at : ℕ)
-      → those 64 timers (λ t. eqb (getD ends t 0) (i + 1)) ≡ dueTimers timers (record { at = at; readings = readingsFrom timers ends i })
+  pub due-deadlines : ((t : ℕ) → t < 64 → T (has timers t) → i < getD ends t 0)
+      → those 64 timers (λ t. eqb (getD ends t 0) (i + 1)) ≡ dueTimers timers (readingsFrom timers ends i)
   unfolding dueTimers reading
-  due-deadlines later at =
+  due-deadlines later =
       those-same 64 timers (λ t. eqb (getD ends t 0) (i + 1)) (λ t. eqb (getD (readingsFrom timers ends i) t 0 - 1) 0)
       (λ t l h. ahead (getD ends t 0) (later t l (of-true h)) ∙ ap (λ (r : ℕ). eqb (r - 1) 0) (sym (reading-from t l (of-true h))))
     where
@@ -40,21 +45,36 @@ module _ (timers : ℕ) (ends : List ℕ) (i : ℕ) where
           (λ h. let k = eqb→eq e (i + 1) h in of-true (eq-eqb (e - i - 1) 0 (omega arith)))
           (λ h. let k = eqb→eq (e - i - 1) 0 h in of-true (eq-eqb e (i + 1) (omega arith)))
 
-  -- a reading fits its word
-  pub readings-word : ((t : ℕ) → t < 64 → T (has timers t) → getD ends t 0 - i < 2 ^ 32)
-      → rowFrom 0 64 (λ t. cond (has timers t) ((getD ends t 0 - i) % 2 ^ 32) 0) ≡ readingsFrom timers ends i
-  readings-word small =
-      rowFrom-ext (λ t. cond (has timers t) ((getD ends t 0 - i) % 2 ^ 32) 0) (λ t. cond (has timers t) (getD ends t 0 - i) 0) 0 64
-      (λ t a b. cond-ext (has timers t) ((getD ends t 0 - i) % 2 ^ 32) (getD ends t 0 - i) 0 (λ h. mod-eq-of-lt (small t (omega arith) h)))
+  -- readings fit their words
+  pub state-word : (at : ℕ) → ((t : ℕ) → t < 64 → T (has timers t) → getD ends t 0 - i < 2 ^ 32) → stateBy ends at timers i ≡ stateFrom at timers ends i
+  state-word at small =
+      ap (λ (l : List ℕ). record { at = at; readings = l })
+      (rowFrom-ext (λ t. cond (has timers t) ((getD ends t 0 - i) % 2 ^ 32) 0) (λ t. cond (has timers t) (getD ends t 0 - i) 0) 0 64
+      (λ t a b. cond-ext (has timers t) ((getD ends t 0 - i) % 2 ^ 32) (getD ends t 0 - i) 0 (λ h. mod-eq-of-lt (small t (omega arith) h))))
+
+  -- the state that a tick leaves, by the deadlines then
+  pub state-next : (at entered : ℕ) (sourceOf delayOf : ℕ → ℕ) (q : State)
+      → ((t : ℕ) → t < 64 → T (has timers t) → getD ends t 0 - i ≡ cond (has entered (sourceOf t)) (delayOf t) (reading (q .readings) t - 1))
+      → stateFrom at timers ends i ≡ nextState at timers entered sourceOf delayOf q
+  unfolding nextState nextReadings
+  state-next at entered sourceOf delayOf q e =
+      ap (λ (l : List ℕ). record { at = at; readings = l })
+      (rowFrom-ext (λ t. cond (has timers t) (getD ends t 0 - i) 0)
+      (λ t. cond (has timers t) (cond (has entered (sourceOf t)) (delayOf t) (reading (q .readings) t - 1)) 0) 0 64
+      (λ t a b. cond-ext (has timers t) (getD ends t 0 - i) (cond (has entered (sourceOf t)) (delayOf t) (reading (q .readings) t - 1)) 0 (e t (omega arith))))
 
 -- ---- at the start of a call the deadlines are the readings, where these are sound
 
-module _ (timers : ℕ) (delayOf : ℕ → ℕ) (readings : List ℕ) (sound : (t : ℕ) → t < 64 → T (readingFits timers delayOf readings t)) where
-  pub start-readings : length readings ≡ 64 → readingsFrom timers readings 0 ≡ readings
-  start-readings n =
-      rowFrom-ext (λ t. cond (has timers t) (getD readings t 0 - 0) 0) (λ t. getD readings t 0) 0 64
+module _ (timers : ℕ) (delayOf : ℕ → ℕ) (q : State) (sound : (t : ℕ) → t < 64 → T (readingFits timers delayOf (q .readings) t)) where
+  abbrev readings : List ℕ
+  readings = q .readings
+
+  pub state-start : length readings ≡ 64 → stateFrom (q .at) timers readings 0 ≡ q
+  state-start n =
+      ap (λ (l : List ℕ). record { at = q .at; readings = l })
+      (rowFrom-ext (λ t. cond (has timers t) (getD readings t 0 - 0) 0) (λ t. getD readings t 0) 0 64
       (λ t a b. at (has timers t) (getD readings t 0) (delayOf t) (sound t (omega arith)))
-      ∙ sym (rw n at (rowFrom-getD readings 0))
+      ∙ sym (rw n at (rowFrom-getD readings 0)))
     where
       at : (b : Bool) (v d : ℕ) → T (cond b (leb 1 v && leb v d) (eqb v 0)) → cond b (v - 0) 0 ≡ v
       at true v d k = sub-zero v

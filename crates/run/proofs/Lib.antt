@@ -1,5 +1,6 @@
 pub mod ArrayLaws
-pub mod ReadingLaws
+pub mod StateWords
+pub mod ReadingTests
 pub mod DeadlineLaws
-pub mod RunPlaces
+pub mod LoopLaws
 pub mod DueNumberLaws

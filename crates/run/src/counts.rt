@@ -1,7 +1,7 @@
 // Ticks (the step level) and rounds (the reaction level) are counted apart and never added.
 ghost use mathlib.Core.Path.{_≡_};
 ghost use Prim.Native.Nat.{_+_, _<_};
-ghost use Rattle.run.specs.Runs.{totalOf};
+ghost use Rattle.run.specs.Counts.{totalOf};
 
 pub struct Ticks(pub usize);
 

@@ -1,7 +1,6 @@
 // Readings during a run: each timer is kept by its deadline, the tick, counted from 1 in the call, in which its reading is 0.
 ghost use mathlib.Core.Path.{_≡_};
-ghost use mathlib.Core.Bool.{cond};
-ghost use mathlib.Core.Bool.{true};
+ghost use mathlib.Core.Bool.{cond, true};
 ghost use Prim.Native.Nat.{ℕ, _+_, _-_, _%_, _^_, _<_, _≤_};
 ghost use lib.Dec.{eqb};
 ghost use lib.ListN.{length, getD};
@@ -45,7 +44,9 @@ pub struct DueTimers {
 }
 
 pub fn due(ends: &[u64; 64], timers: u64, tick: u64) -> DueTimers
-    ensures { λ r. ⌜ (r .set ≡ those 64 timers (λ t. eqb (getD (now (ends .entry)) t 0) tick)) × (r .number ≡ dueNumber (members 64 timers) (r .set)) ⌝ }
+    ensures { λ r. ⌜
+        (r .set ≡ those 64 timers (λ t. eqb (getD (now (ends .entry)) t 0) tick))
+        × (r .number ≡ dueNumber (members 64 timers) (r .set)) ⌝ }
 {
     let mut set = 0u64;
     let mut number = 0u64;
@@ -65,7 +66,9 @@ pub fn due(ends: &[u64; 64], timers: u64, tick: u64) -> DueTimers
 // The timers of a set start at their delays in a tick.
 pub fn restart(delays: &[u64; 64], ends: &mut [u64; 64], set: u64, tick: u64)
     requires { ⌜ (length (now ends) ≡ 64) × (tick < 2 ^ 62) × ((t : ℕ) → t < 64 → getD (now delays) t 0 < 2 ^ 32) ⌝ }
-    ensures { λ _. ⌜ now (ends .exit) ≡ rowFrom 0 64 (λ t. cond (has set t) (tick + getD (now (delays .entry)) t 0) (getD (now (ends .entry)) t 0)) ⌝ }
+    ensures { λ _. ⌜
+        now (ends .exit)
+        ≡ rowFrom 0 64 (λ t. cond (has set t) (tick + getD (now (delays .entry)) t 0) (getD (now (ends .entry)) t 0)) ⌝ }
 {
     let mut rest = set;
     while rest != 0 {

@@ -134,5 +134,5 @@ module _ (w : List ℕ) (h : T (tableOk w)) where
   unfolding cellOf cellsIn size
   cell-lt q i l k =
       let ts = timersIn w (q .at) in
-      subst (λ (x : ℕ). dueNumber (members 64 ts) (dueTimers ts q) * 2 ^ kIn w + i < x) (sym (pow-add 2 (length (members 64 ts)) (kIn w)))
-      (digits-lt (dueNumber-lt (members 64 ts) (dueTimers ts q)) k)
+      subst (λ (x : ℕ). dueNumber (members 64 ts) (dueTimers ts (q .readings)) * 2 ^ kIn w + i < x) (sym (pow-add 2 (length (members 64 ts)) (kIn w)))
+      (digits-lt (dueNumber-lt (members 64 ts) (dueTimers ts (q .readings))) k)

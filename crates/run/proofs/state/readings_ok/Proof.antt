@@ -10,7 +10,7 @@ use lib.Dec.{leb, eqb}
 use lib.ListN.{getD}
 use Rattle.sets.specs.Sets.{every}
 use Rattle.sets.proofs.Loops.{every-start, every-next, every-fails, every-done}
-use Rattle.run.proofs.ReadingLaws.{readingFits, readings-ok-def}
+use Rattle.run.proofs.ReadingTests.{readingFits, readings-ok-def}
 use Rattle.run.proofs.state.readings_ok.Statement.{statement}
 use Rattle.run.proofs.state.readings_ok.Tie as tie
 

@@ -1,0 +1,142 @@
+-- A run's loop, over any step: the input set tested, a run's words from the place of tick i on, what is left from here gives what
+-- all gives from the start; and a run that stops before any tick. Assumes nothing.
+use mathlib.Core.Path.{_≡_, refl, sym, ap, _∙_}
+use mathlib.Core.Bool.{Bool, true, false}
+use mathlib.Core.List.{List}
+use Prim.Native.Nat.{ℕ, suc, _+_, _*_, _/_, _^_, _≤_, _<_, zero-le}
+use native.Mathlib.Nat.{zero-add, add-zero, mod-lt, div-eq-of-lt, div-add-mod', lt-of-not-le, zero-mul}
+use native.Mathlib.Decide.{decLe}
+use native.Mathlib.Numerals.{add-one}
+use native.Mathlib.Omega.{arith}
+use lib.Dec.{T, leb}
+use lib.ListN.{length, getD, drop, drop-of-length-le}
+use lib.Pow.{pow-pos}
+use lib.Seq.{drop-cons}
+use borrow.Author.Tests.{le-leb, lt-leb, lt-ltb, le-ltb}
+use Rattle.sets.proofs.Tests.{is-true, of-true}
+use Rattle.rows.specs.Over.{over}
+use Rattle.rows.proofs.OverLaws.{length-over, over-more, over-nil, over-front}
+use Rattle.meaning.specs.Lists.{overwritten}
+use Rattle.meaning.specs.Run.{State, Step, Ticks, stops, tickThen, outputShort, inputForeign, Run, ran, tickRefusal, ticks, run}
+use Rattle.meaning.proofs.RunLaws.{tick-known, ticks-end, ticks-refused, ticks-foreign, ticks-go, run-refused, run-state, run-short, run-goes}
+
+-- ---- the input set
+
+module _ (k i : ℕ) where
+  pub input-foreign : (i / 2 ^ k ≡ 0 → ⊥) → inputForeign k i ≡ true
+  unfolding inputForeign
+  input-foreign n = is-true (leb (2 ^ k) i) (go (decLe (2 ^ k) i))
+    where
+      go : Dec (2 ^ k ≤ i) → T (leb (2 ^ k) i)
+      go (yes h) = of-true (le-leb (2 ^ k) i h)
+      go (no h) = absurd (n (div-eq-of-lt (lt-of-not-le h)))
+
+  pub input-below : i / 2 ^ k ≡ 0 → i < 2 ^ k
+  input-below e = omega (arith, div-add-mod' i (2 ^ k), mod-lt i (pow-pos k), ap (λ (x : ℕ). x * 2 ^ k) e, zero-mul (2 ^ k))
+
+  pub input-fits : i / 2 ^ k ≡ 0 → inputForeign k i ≡ false
+  unfolding inputForeign
+  input-fits e = lt-leb (2 ^ k) i (input-below e)
+
+-- ---- a run's words, five to a tick, from the place of tick i on; the other words stay
+
+unfoldable pub placed : ℕ → ℕ → List ℕ → Ticks → Run
+placed i total out o =
+    record { done = i + o .done; state = o .state; refusal = o .refusal; rounds = total + o .rounds; out = over out (5 * i) (o .words) }
+
+pub placed-all : (out : List ℕ) (o : Ticks) → placed 0 0 out o ≡ ran out o
+unfolding placed ran overwritten
+placed-all out o = simp (zero-add, over-front)
+
+pub placed-stops : (i total : ℕ) (out : List ℕ) (e : ℕ) (q : State)
+    → placed i total out (stops e q) ≡ record { done = i; state = q; refusal = e; rounds = total; out = out }
+unfolding placed stops
+placed-stops i total out e q = simp (add-zero, over-nil)
+
+pub placed-more : (i total : ℕ) (out : List ℕ) (o : Step) (on : Ticks) → length (o .words) ≡ 5 → 5 * i + 5 ≤ length out
+    → placed i total out (tickThen o on) ≡ placed (i + 1) (total + o .rounds) (over out (5 * i) (o .words)) on
+unfolding placed tickThen
+placed-more i total out o on n h =
+    let a : i + suc (on .done) ≡ i + 1 + on .done = omega arith in
+    let b : total + (o .rounds + on .rounds) ≡ total + o .rounds + on .rounds = omega arith in
+    let e : 5 * (i + 1) ≡ 5 * i + length (o .words) = omega arith in
+    cc (over-more out (5 * i) (o .words) (omega arith) (on .words) (5 * (i + 1)) e)
+
+-- ---- the loop, from the state q₀ and the output words out₀: at input i, in the state q
+
+module _ (k : ℕ) (step : State → ℕ → Step) (inputs out₀ : List ℕ) (q₀ : State) where
+  abbrev all : Run
+  all = ran out₀ (ticks k step inputs q₀)
+
+  pub record Reached (out : List ℕ) (total i : ℕ) (q : State) : Type 0 where
+    pub within : i ≤ length inputs
+    pub room : 5 * length inputs ≤ length out
+    pub same : length out ≡ length out₀
+    pub rest : placed i total out (ticks k step (drop i inputs) q) ≡ all
+
+  pub reached-start : 5 * length inputs ≤ length out₀ → Reached out₀ 0 0 q₀
+  reached-start room = record { within = zero-le; room = room; same = refl; rest = placed-all out₀ (ticks k step inputs q₀) }
+
+  module _ {out : List ℕ} {total i : ℕ} {q : State} (r : Reached out total i q) where
+    -- the run that ends here
+    abbrev pub endsHere : ℕ → Run
+    endsHere e = record { done = i; state = q; refusal = e; rounds = total; out = out }
+
+    ends : (e : ℕ) → ticks k step (drop i inputs) q ≡ stops e q → endsHere e ≡ all
+    ends e z = sym (ap (placed i total out) z ∙ placed-stops i total out e q) ∙ r .rest
+
+    -- no input is left
+    pub reached-end : length inputs ≤ i → endsHere 0 ≡ all
+    reached-end l = ends 0 (rw (drop-of-length-le inputs l) (ticks-end k step q))
+
+    module _ (l : i < length inputs) where
+      abbrev input : ℕ
+      input = getD inputs i 0
+
+      pub reached-foreign : (input / 2 ^ k ≡ 0 → ⊥) → endsHere 13 ≡ all
+      reached-foreign n = ends 13 (rw (drop-cons inputs i 0 l) (ticks-foreign k step input (drop (suc i) inputs) q (input-foreign k input n)))
+
+      module _ (b : input / 2 ^ k ≡ 0) where
+        known : tickRefusal k step q input ≡ step q input .refusal
+        known = tick-known k step q input (input-fits k input b)
+
+        pub reached-refused : {e : ℕ} → step q input .refusal ≡ e → (e ≡ 0 → ⊥) → endsHere e ≡ all
+        reached-refused {e} z n =
+            ends e (rw (drop-cons inputs i 0 l) (ticks-refused k step input (drop (suc i) inputs) q (λ h. n (sym (known ∙ z) ∙ h)) ∙ ap (λ (x : ℕ). stops x q) (known ∙ z)))
+
+        pub reached-turn : step q input .refusal ≡ 0 → length (step q input .words) ≡ 5
+            → Reached (over out (5 * i) (step q input .words)) (total + step q input .rounds) (i + 1) (step q input .state)
+        reached-turn z five =
+            let o = step q input in
+            let long : length (over out (5 * i) (o .words)) ≡ length out = length-over out (5 * i) (o .words) (omega (arith, r .room)) in
+            record {
+              within = omega arith;
+              room = omega (arith, r .room);
+              same = long ∙ r .same;
+              rest =
+                  sym (rw (drop-cons inputs i 0 l) (ap (placed i total out) (ticks-go k step input (drop (suc i) inputs) q (known ∙ z))
+                  ∙ placed-more i total out o (ticks k step (drop (suc i) inputs) (o .state)) five (omega (arith, r .room)) ∙ rw add-one refl)) ∙ r .rest;
+            }
+
+-- ---- the whole run: what is refused before any tick, else the ticks
+
+module _ (k : ℕ) (step : State → ℕ → Step) (refusal : ℕ) (ok : Bool) (q : State) (inputs out : List ℕ) where
+  abbrev pub stopped : ℕ → Run
+  stopped e = record { done = 0; state = q; refusal = e; rounds = 0; out = out }
+
+  stopped-is : (e : ℕ) → stopped e ≡ ran out (stops e q)
+  unfolding ran stops overwritten
+  stopped-is e = refl
+
+  pub stopped-refused : {e : ℕ} → e ≡ refusal → (e ≡ 0 → ⊥) → stopped e ≡ run k step refusal ok q inputs out
+  stopped-refused z n = ap stopped z ∙ stopped-is refusal ∙ sym (run-refused k step refusal ok q inputs out (λ h. n (z ∙ h)))
+
+  pub stopped-state : refusal ≡ 0 → ok ≡ false → stopped 14 ≡ run k step refusal ok q inputs out
+  stopped-state z e = stopped-is 14 ∙ sym (run-state k step refusal ok q inputs out z e)
+
+  pub stopped-short : refusal ≡ 0 → ok ≡ true → length out / 5 < length inputs → stopped 12 ≡ run k step refusal ok q inputs out
+  stopped-short z e h =
+      stopped-is 12 ∙ sym (run-short k step refusal ok q inputs out z e (unfold outputShort in (lt-ltb (length out) (5 * length inputs) (omega arith))))
+
+  pub goes-on : refusal ≡ 0 → ok ≡ true → 5 * length inputs ≤ length out → ran out (ticks k step inputs q) ≡ run k step refusal ok q inputs out
+  goes-on z e h = sym (run-goes k step refusal ok q inputs out z e (unfold outputShort in (le-ltb (length out) (5 * length inputs) h)))
