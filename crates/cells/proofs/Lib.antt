@@ -1,2 +1,2 @@
-pub mod ListPlaceLaws
+pub mod SearchLaws
 pub mod NextDueLaws
