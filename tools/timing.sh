@@ -1,7 +1,8 @@
 #!/usr/bin/env bash
 # timing.sh [SECONDS] [large]: proves and builds the crate `native` as an archive, and times compile, table run and sheet run beside
-# the Rust version of shared/peer; with MODEL_DIR set, the sheet run also beside the unproved model (tools/model.sh makes that).
-# Each function of both archives is placed at a multiple of 64 bytes: where a loop falls in a cache line is worth up to a sixth.
+# the Rust version of shared/peer; with BEFORE_DIR set, also beside our own of an earlier commit (tools/before.sh makes that); with
+# MODEL_DIR set, the sheet run also beside the unproved model (tools/model.sh makes that).
+# Each function of all archives is placed at a multiple of 64 bytes: where a loop falls in a cache line is worth up to a sixth.
 set -eu
 cd "$(dirname "$0")/.."
 export NATIVE_DIR=$PWD/target/timing CARGO_TARGET_DIR=$PWD/target/cargo

@@ -1,10 +1,14 @@
 // timing [SECONDS] [large]: compile, table run and sheet run, ours beside the hand-optimised Rust version, in turns on the same
-// sheets, inputs and buffers (warm, not cleared). Every word of table, work list and output is compared first. With MODEL_DIR set
-// at build, the sheet run of the unproved model of patterns/code is timed in the same turns.
+// sheets, inputs and buffers (warm, not cleared). Every word of table, work list and output is compared first. With BEFORE_DIR set
+// at build, our operations as they were at an earlier commit are timed in the same turns; with MODEL_DIR, the sheet run of the
+// unproved model of patterns/code.
+#[cfg(before)]
+mod before;
+mod calls;
 mod charts;
-mod ours;
 #[cfg(model)]
 mod model;
+mod ours;
 
 use modechart::rng::Rng;
 use modechart::*;
@@ -44,68 +48,113 @@ struct Chart {
     inputs: Vec<u32>,
 }
 
+type Compile = fn(&[u32], &mut [u32], &mut [u32]) -> (u32, usize, usize);
+type Run = fn(&[u32], &[u32], &mut [u32]) -> (u32, usize);
+
+// An operation under the name of its version. The first version is ours; the others are what it is timed beside.
+struct Version<F> {
+    name: &'static str,
+    call: F,
+}
+
+fn rust_compile(sheet: &[u32], table: &mut [u32], work: &mut [u32]) -> (u32, usize, usize) {
+    let c = fast::compile(sheet, table, work);
+    (0, c.f, c.length)
+}
+
+fn rust_table_run(table: &[u32], inputs: &[u32], out: &mut [u32]) -> (u32, usize) {
+    (0, fast::run_table(table, TableState::FRESH, inputs, out).done)
+}
+
+fn rust_sheet_run(sheet: &[u32], inputs: &[u32], out: &mut [u32]) -> (u32, usize) {
+    (0, fast::run_sheet(sheet, SheetState::FRESH, inputs, out).done)
+}
+
+fn compiles() -> Vec<Version<Compile>> {
+    vec![
+        Version { name: "ours", call: ours::compile },
+        Version { name: "Rust", call: rust_compile },
+        #[cfg(before)]
+        Version { name: "before", call: before::compile },
+    ]
+}
+
+fn table_runs() -> Vec<Version<Run>> {
+    vec![
+        Version { name: "ours", call: ours::table_run },
+        Version { name: "Rust", call: rust_table_run },
+        #[cfg(before)]
+        Version { name: "before", call: before::table_run },
+    ]
+}
+
+fn sheet_runs() -> Vec<Version<Run>> {
+    vec![
+        Version { name: "ours", call: ours::sheet_run },
+        Version { name: "Rust", call: rust_sheet_run },
+        #[cfg(before)]
+        Version { name: "before", call: before::sheet_run },
+        #[cfg(model)]
+        Version { name: "model", call: model::sheet_run },
+    ]
+}
+
+// A row: each version's speed, and ours as a multiple of the others'.
+fn print_row<F>(chart: &str, unit: &str, versions: &[Version<F>], amount: f64, times: &[f64]) {
+    print!("{:20} {:24}", chart, unit);
+    for (v, t) in versions.iter().zip(times) {
+        print!("  {} {:8.2}", v.name, amount / t);
+    }
+    for (v, t) in versions.iter().zip(times).skip(1) {
+        print!("  ours : {} {:5.2}", v.name, t / times[0]);
+    }
+    println!();
+}
+
 fn compiled(name: &'static str, sheet: Vec<u32>, budget: f64) -> Chart {
-    let mut work = vec![0u32; 4095];
-    let length = fast::compile(&sheet, &mut vec![0u32; 80 << 20], &mut work).length;
-    let (mut table, mut table2, mut work2) = (vec![0u32; length], vec![0u32; length], vec![0u32; 4095]);
-    let c = fast::compile(&sheet, &mut table, &mut work);
-    assert_eq!(ours::compile(&sheet, &mut table2, &mut work2), (0, c.f, c.length));
-    assert!(table == table2 && work == work2);
-    let t = by_turns(budget, &mut [
-        &mut || { black_box(ours::compile(black_box(&sheet), &mut table2, &mut work2)); },
-        &mut || { black_box(fast::compile(black_box(&sheet), &mut table, &mut work)); },
-    ]);
-    let cells = (length - 4 - sheet[2] as usize - 5 * (c.f + 1)) as f64 / 6e6;
-    println!("{:20} compile, M cells/s     ours {:8.2}  Rust {:8.2}  ours : Rust {:5.2}   ({} sets, {} words)", name, cells / t[0], cells / t[1], t[1] / t[0], c.f, length);
+    let versions = compiles();
+    let length = fast::compile(&sheet, &mut vec![0u32; 80 << 20], &mut vec![0u32; 4095]).length;
+    let mut lent: Vec<_> = versions.iter().map(|_| (vec![0u32; length], vec![0u32; 4095])).collect();
+    let answers: Vec<_> = versions.iter().zip(&mut lent).map(|(v, (table, work))| (v.call)(&sheet, table, work)).collect();
+    assert!(answers.iter().all(|a| *a == answers[0]) && lent.iter().all(|l| *l == lent[0]));
+    let mut turns: Vec<_> = versions.iter().zip(&mut lent)
+        .map(|(v, (table, work))| || { black_box((v.call)(black_box(&sheet), table, work)); }).collect();
+    let t = by_turns(budget, &mut turns.iter_mut().map(|f| f as &mut dyn FnMut()).collect::<Vec<_>>());
+    drop(turns);
+    let f = answers[0].1;
+    let cells = (length - 4 - sheet[2] as usize - 5 * (f + 1)) as f64 / 6e6;
+    print_row(name, "compile, M cells/s", &versions, cells, &t);
     let mut r = Rng::new(9);
     let inputs = (0..1 << 18).map(|_| r.below(1 << sheet[1])).collect();
-    Chart { name, sheet, table, inputs }
+    Chart { name, table: lent.swap_remove(0).0, sheet, inputs }
+}
+
+// The best time of each version of a run, by turns.
+fn run_times(versions: &[Version<Run>], words: &[u32], inputs: &[u32], budget: f64) -> Vec<f64> {
+    let mut outs: Vec<_> = versions.iter().map(|_| vec![0u32; 5 * inputs.len()]).collect();
+    for (v, out) in versions.iter().zip(&mut outs) {
+        assert_eq!((v.call)(words, inputs, out), (0, inputs.len()));
+    }
+    assert!(outs.iter().all(|o| *o == outs[0]));
+    let mut turns: Vec<_> = versions.iter().zip(&mut outs)
+        .map(|(v, out)| || { black_box((v.call)(black_box(words), inputs, out)); }).collect();
+    by_turns(budget, &mut turns.iter_mut().map(|f| f as &mut dyn FnMut()).collect::<Vec<_>>())
 }
 
 // Ticks per second, the cost of a call without ticks (the layout check) counted apart.
-fn table_runs(c: &Chart, budget: f64) {
-    let ticks = c.inputs.len();
-    let (mut out, mut out2) = (vec![0u32; 5 * ticks], vec![0u32; 5 * ticks]);
-    assert_eq!(ours::table_run(&c.table, &c.inputs, &mut out2), (0, ticks));
-    assert_eq!(fast::run_table(&c.table, TableState::FRESH, &c.inputs, &mut out).done, ticks);
-    assert!(out == out2);
-    let e = by_turns(budget / 2.0, &mut [
-        &mut || { black_box(ours::table_run(black_box(&c.table), &[], &mut [])); },
-        &mut || { black_box(fast::run_table(black_box(&c.table), TableState::FRESH, &[], &mut [])); },
-    ]);
-    let t = by_turns(budget, &mut [
-        &mut || { black_box(ours::table_run(black_box(&c.table), &c.inputs, &mut out2)); },
-        &mut || { black_box(fast::run_table(black_box(&c.table), TableState::FRESH, &c.inputs, &mut out)); },
-    ]);
-    let m = ticks as f64 / 1e6;
-    let (a, b) = (t[0] - e[0], t[1] - e[1]);
-    println!("{:20} table run, M ticks/s   ours {:8.2}  Rust {:8.2}  ours : Rust {:5.2}   (layout check, M words/s: {:.0}, {:.0}, {:.2})",
-        c.name, m / a, m / b, b / a, c.table.len() as f64 / e[0] / 1e6, c.table.len() as f64 / e[1] / 1e6, e[1] / e[0]);
+fn time_table_runs(c: &Chart, budget: f64) {
+    let versions = table_runs();
+    let checks = run_times(&versions, &c.table, &[], budget / 2.0);
+    let whole = run_times(&versions, &c.table, &c.inputs, budget);
+    let ticks: Vec<_> = whole.iter().zip(&checks).map(|(t, e)| t - e).collect();
+    print_row(c.name, "table run, M ticks/s", &versions, c.inputs.len() as f64 / 1e6, &ticks);
+    print_row(c.name, "layout check, M words/s", &versions, c.table.len() as f64 / 1e6, &checks);
 }
 
-fn sheet_runs(c: &Chart, budget: f64) {
-    let ticks = c.inputs.len();
-    let (mut out, mut out2) = (vec![0u32; 5 * ticks], vec![0u32; 5 * ticks]);
-    assert_eq!(ours::sheet_run(&c.sheet, &c.inputs, &mut out2), (0, ticks));
-    assert_eq!(fast::run_sheet(&c.sheet, SheetState::FRESH, &c.inputs, &mut out).done, ticks);
-    assert!(out == out2);
-    let m = ticks as f64 / 1e6;
-    let mut first = || { black_box(ours::sheet_run(black_box(&c.sheet), &c.inputs, &mut out2)); };
-    let mut second = || { black_box(fast::run_sheet(black_box(&c.sheet), SheetState::FRESH, &c.inputs, &mut out)); };
-    #[cfg(not(model))]
-    {
-        let t = by_turns(budget, &mut [&mut first, &mut second]);
-        println!("{:20} sheet run, M ticks/s   ours {:8.2}  Rust {:8.2}  ours : Rust {:5.2}", c.name, m / t[0], m / t[1], t[1] / t[0]);
-    }
-    #[cfg(model)]
-    {
-        let mut out3 = vec![0u32; 5 * ticks];
-        let mut third = || { black_box(model::sheet_run(black_box(&c.sheet), &c.inputs, &mut out3)); };
-        let t = by_turns(budget, &mut [&mut first, &mut second, &mut third]);
-        println!("{:20} sheet run, M ticks/s   ours {:8.2}  Rust {:8.2}  ours : Rust {:5.2}   model {:8.2}  ours : model {:5.2}",
-            c.name, m / t[0], m / t[1], t[1] / t[0], m / t[2], t[2] / t[0]);
-        assert!(out2 == out3);
-    }
+fn time_sheet_runs(c: &Chart, budget: f64) {
+    let versions = sheet_runs();
+    let t = run_times(&versions, &c.sheet, &c.inputs, budget);
+    print_row(c.name, "sheet run, M ticks/s", &versions, c.inputs.len() as f64 / 1e6, &t);
 }
 
 fn main() {
@@ -113,7 +162,7 @@ fn main() {
     let large = std::env::args().nth(2).is_some();
     for (name, sheet) in charts::charts(large) {
         let c = compiled(name, sheet, budget);
-        table_runs(&c, budget);
-        sheet_runs(&c, budget);
+        time_table_runs(&c, budget);
+        time_sheet_runs(&c, budget);
     }
 }

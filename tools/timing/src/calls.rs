@@ -1,0 +1,74 @@
+// The operations of an archive of the crate `native`, under the names that it gives them.
+macro_rules! calls {
+    ($compile:literal, $table_run:literal, $sheet_run:literal) => {
+        extern "C" {
+            #[link_name = $compile]
+            fn native_compile(
+                sheet: *const u32, sheet_len: usize,
+                table: *mut u32, table_len: usize,
+                work: *mut u32, work_len: usize,
+                info: *mut u64, info_len: usize,
+            ) -> u32;
+            #[link_name = $table_run]
+            fn native_table_run(
+                table: *const u32, table_len: usize,
+                state: *mut u32, state_len: usize,
+                inputs: *const u32, inputs_len: usize,
+                out: *mut u32, out_len: usize,
+                info: *mut u64, info_len: usize,
+            ) -> u32;
+            #[link_name = $sheet_run]
+            fn native_sheet_run(
+                sheet: *const u32, sheet_len: usize,
+                state: *mut u32, state_len: usize,
+                inputs: *const u32, inputs_len: usize,
+                out: *mut u32, out_len: usize,
+                info: *mut u64, info_len: usize,
+            ) -> u32;
+        }
+
+        // refusal, f, length
+        pub fn compile(sheet: &[u32], table: &mut [u32], work: &mut [u32]) -> (u32, usize, usize) {
+            let mut info = [0u64; 2];
+            let refusal = unsafe {
+                native_compile(
+                    sheet.as_ptr(), sheet.len(),
+                    table.as_mut_ptr(), table.len(),
+                    work.as_mut_ptr(), work.len(),
+                    info.as_mut_ptr(), info.len(),
+                )
+            };
+            (refusal, info[0] as usize, info[1] as usize)
+        }
+
+        // From power-on: refusal, ticks done
+        pub fn table_run(table: &[u32], inputs: &[u32], out: &mut [u32]) -> (u32, usize) {
+            let (mut state, mut info) = ([0u32; 65], [0u64; 1]);
+            let refusal = unsafe {
+                native_table_run(
+                    table.as_ptr(), table.len(),
+                    state.as_mut_ptr(), state.len(),
+                    inputs.as_ptr(), inputs.len(),
+                    out.as_mut_ptr(), out.len(),
+                    info.as_mut_ptr(), info.len(),
+                )
+            };
+            (refusal, info[0] as usize)
+        }
+
+        pub fn sheet_run(sheet: &[u32], inputs: &[u32], out: &mut [u32]) -> (u32, usize) {
+            let (mut state, mut info) = ([0u32; 65], [0u64; 3]);
+            let refusal = unsafe {
+                native_sheet_run(
+                    sheet.as_ptr(), sheet.len(),
+                    state.as_mut_ptr(), state.len(),
+                    inputs.as_ptr(), inputs.len(),
+                    out.as_mut_ptr(), out.len(),
+                    info.as_mut_ptr(), info.len(),
+                )
+            };
+            (refusal, info[0] as usize)
+        }
+    };
+}
+pub(crate) use calls;
