@@ -6,6 +6,7 @@ use mathlib.Core.List.{List, [], _∷_}
 use Prim.Native.Nat.{ℕ, zero, suc, _≤_, _<_, zero-le}
 use native.Mathlib.Nat.{le-refl, le-trans, lt-of-le-of-lt, not-suc-le-zero, eq-zero-or-pos, le-antisymm}
 use native.Mathlib.Omega.{arith}
+use lib.Arith.{lt-of-le-ne}
 use lib.Dec.{T, eqb, ltb, eqb→eq, eqb-refl, ltb→lt, lt→ltb, T-not, not-T}
 use borrow.Author.Tests.{eqb-true, eqb-false, eq-eqb}
 use Rattle.sets.proofs.Tests.{of-true, and-l, and-r, and-i, or-e, or-l, or-r}
@@ -102,6 +103,13 @@ module _ (s : List ℕ) (ro : Rooted s) where
   pub contains-i : {a : ℕ} (m : ℕ) → Within s a m → m < nOf s → T (contains s a m)
   unfolding contains
   contains-i m w l = of-within m w (le-refl m) l
+
+  -- a mode that strictly contains m has a lower number
+  pub strictly-lt : (a m : ℕ) → m < nOf s → T (strictlyContains s a m) → a < m
+  unfolding strictlyContains
+  strictly-lt a m l h =
+      lt-of-le-ne (within-le (contains-e a m (and-r (not (eqb a m)) (contains s a m) h)) l)
+      (λ e. T-not (eqb a m) (and-l (not (eqb a m)) (contains s a m) h) (of-true (eq-eqb a m e)))
 
   -- a child is not above its parent, and siblings one within the other are the same
   pub not-above : (y : ℕ) → 0 < y → y < nOf s → Within s y (parent s y) → ⊥

@@ -16,15 +16,13 @@ use Rattle.meaning.proofs.Completion.{comp-of, of-comp}
 
 -- ---- containment and completion: the relation that each tests knows no fuel
 
-pub contains-same : (s : List ℕ) → Rooted s → (f g a m : ℕ) → m ≤ f → m ≤ g → m < nOf s → containsIn s f a m ≡ containsIn s g a m
-contains-same s ro f g a m h k l =
-    bool-ext (containsIn s f a m) (containsIn s g a m)
-    (λ e. of-within s ro g (within-of s ro f a m e) k l)
-    (λ e. of-within s ro f (within-of s ro g a m e) h l)
-
 pub containment-enough : ContainmentEnough
 unfolding ContainmentEnough contains
-containment-enough s h a m f l = contains-same s (tree s (sound s h)) (m + f) m a m (omega arith) (le-refl m) l
+containment-enough s h a m f l =
+    let ro = tree s (sound s h) in
+    bool-ext (containsIn s (m + f) a m) (containsIn s m a m)
+    (λ e. of-within s ro m (within-of s ro (m + f) a m e) (le-refl m) l)
+    (λ e. of-within s ro (m + f) (within-of s ro m a m e) (omega arith) l)
 
 pub completion-enough : CompletionEnough
 unfolding CompletionEnough

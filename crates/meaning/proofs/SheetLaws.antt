@@ -1,19 +1,18 @@
 -- What a sheet's mode rows say of parents, and what a sheet that is refused by none of 1 to 6 satisfies. Assumes nothing.
-use mathlib.Core.Path.{_≡_, ap, _∙_, subst}
+use mathlib.Core.Path.{_≡_, ap, _∙_}
 use mathlib.Core.Logic.{_⊎_, inl, inr}
 use mathlib.Core.Bool.{Bool, false, not}
 use mathlib.Core.List.{List, [], _∷_}
-use Prim.Native.Nat.{ℕ, zero, suc, _≤_, _<_, zero-le}
+use Prim.Native.Nat.{ℕ, suc, _≤_, _<_, zero-le}
 use native.Mathlib.Nat.{le-trans, le-of-eq, le-of-lt, lt-of-le-of-lt, eq-zero-or-pos}
 use native.Mathlib.Omega.{arith}
-use lib.Dec.{T, eqb, ltb, eqb→eq, eqb-refl, ltb→lt, leb→le, T-not}
-use lib.Arith.{lt-of-le-ne}
+use lib.Dec.{T, eqb, ltb, eqb→eq, ltb→lt, leb→le}
 use lib.ListN.{length}
 use borrow.Author.Tests.{not-false, eq-eqb, ne-eqb}
 use Rattle.sets.specs.Sets.{every}
-use Rattle.sets.proofs.Tests.{of-true, and-l, and-r, or-e}
+use Rattle.sets.proofs.Tests.{of-true, and-l, and-r}
 use Rattle.sets.proofs.Facts.{every-e}
-use Rattle.meaning.specs.Sheet.{nOf, kOf, tOf, kind, parent, first, isChild, source, endBefore, termCount, containsIn, contains, strictlyContains}
+use Rattle.meaning.specs.Sheet.{nOf, kOf, tOf, kind, parent, first, isChild, source, endBefore, termCount}
 use Rattle.meaning.specs.Check.{headOk, modeOk, modesOk, pairOk, pairsOk, endOk, endsOk, termOk, termsOk, distinctOk, sheetRefusal}
 use Rattle.meaning.proofs.ListLaws.{allOf-e, firstOf-off}
 
@@ -49,22 +48,6 @@ module _ (s : List ℕ) (ro : Rooted s) where
       go : (m ≡ 0) ⊎ (0 < m) → parent s m ≤ f
       go (inl e) = le-trans (le-of-eq (ap (parent s) e ∙ ro .root)) zero-le
       go (inr p) = omega (arith, ro .lower m p l)
-
-  -- a mode that contains m has no higher number
-  pub containsIn-le : (f a m : ℕ) → m < nOf s → T (containsIn s f a m) → a ≤ m
-  unfolding containsIn
-  containsIn-le zero a m l k = le-of-eq (eqb→eq a m k)
-  containsIn-le (suc f) a m l k = go (or-e (eqb a m) (containsIn s f a (parent s m)) k) (containsIn-le f a (parent s m) (parent-n m l))
-    where
-      go : T (eqb a m) ⊎ T (containsIn s f a (parent s m)) → (T (containsIn s f a (parent s m)) → a ≤ parent s m) → a ≤ m
-      go (inl e) ih = le-of-eq (eqb→eq a m e)
-      go (inr c) ih = le-trans (ih c) (parent-le m l)
-
-  pub strictly-lt : (a m : ℕ) → m < nOf s → T (strictlyContains s a m) → a < m
-  unfolding strictlyContains contains
-  strictly-lt a m l k =
-      let ne : a ≡ m → ⊥ = λ e. T-not (eqb a m) (and-l (not (eqb a m)) (contains s a m) k) (subst (λ (x : ℕ). T (eqb a x)) e (eqb-refl a)) in
-      lt-of-le-ne (containsIn-le m a m l (and-r (not (eqb a m)) (contains s a m) k)) ne
 
 -- ---- the sheet past 1 to 6
 

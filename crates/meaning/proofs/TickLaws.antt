@@ -19,7 +19,8 @@ use Rattle.meaning.specs.Hierarchy.{complete}
 use Rattle.meaning.specs.Reaction.{TickSets, isDelay, delay, isTimer, running, alternative, isDue, trigger, triggered, conflict, givesWay, eligible, ambiguous, restless, exiting, entering, afterRound}
 use Rattle.meaning.specs.Tick.{Tick, begin, chosen, roundsFrom, tick}
 use Rattle.meaning.specs.Promises.{TickRounds, RoundsEnough}
-use Rattle.meaning.proofs.SheetLaws.{strictly-lt, Sound, tree, source-lt}
+use Rattle.meaning.proofs.SheetLaws.{Sound, tree, source-lt}
+use Rattle.meaning.proofs.Containment.{strictly-lt}
 
 -- ---- whatever a round keeps holds at the end of the rounds
 

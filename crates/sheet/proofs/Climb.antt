@@ -1,22 +1,22 @@
 -- The mode tree climbed one parent at a time: what a step leaves as it was of containment, the meeting mode and the child that
 -- holds a mode, and what each is where the climb ends. Assumes nothing.
-use mathlib.Core.Path.{_≡_, sym, ap, _∙_}
+use mathlib.Core.Path.{_≡_, sym, _∙_}
 use mathlib.Core.Logic.{_⊎_, inl, inr}
-use mathlib.Core.Bool.{Bool, true, false, not, _||_}
+use mathlib.Core.Bool.{true, false, not}
 use mathlib.Core.List.{List}
 use Prim.Native.Nat.{ℕ, zero, suc, _≤_, _<_}
 use native.Mathlib.Nat.{le-refl, eq-or-lt-of-le, not-suc-le-zero}
 use native.Mathlib.Omega.{arith}
 use lib.Dec.{T, eqb}
 use borrow.Author.Tests.{eqb-true, eq-eqb, ne-eqb}
-use Rattle.sets.proofs.Tests.{is-true, is-false, of-true, and-r, and-i}
+use Rattle.sets.proofs.Tests.{is-true, is-false, of-true, and-r, and-i, bool-ext}
 use Rattle.sets.proofs.Facts.{every-e}
-use Rattle.meaning.specs.Sheet.{nOf, parent, containsIn, contains, strictlyContains, meetingFrom, meetingOf}
+use Rattle.meaning.specs.Sheet.{nOf, parent, contains, strictlyContains, meetingFrom, meetingOf}
 use Rattle.meaning.specs.Check.{modeOk, modesOk}
 use Rattle.meaning.specs.Hierarchy.{childHolding}
-use Rattle.meaning.proofs.SheetLaws.{Rooted, rooted, parent-le, parent-n, parent-le-of-suc, containsIn-le, strictly-lt}
-use Rattle.meaning.proofs.Containment.{here, contains-i}
-use Rattle.meaning.proofs.Fuel.{contains-same, meeting-climbs, child-climbs, climb-same, climb-found, climb-step}
+use Rattle.meaning.proofs.SheetLaws.{Rooted, rooted, parent-le, parent-n}
+use Rattle.meaning.proofs.Containment.{here, up, within-strict, within-le, contains-e, contains-i, strictly-lt}
+use Rattle.meaning.proofs.Fuel.{meeting-climbs, child-climbs, climb-same, climb-found, climb-step}
 use Rattle.sheet.specs.Reading.{Tree}
 use Rattle.sheet.proofs.SheetTestLaws.{head-of}
 
@@ -28,19 +28,17 @@ module _ {s : List ℕ} (ro : Rooted s) where
   -- ---- containment
 
   pub contains-step : (a x : ℕ) → a < x → x < nOf s → contains s a x ≡ contains s a (parent s x)
-  unfolding contains containsIn
-  contains-step a zero h l = absurd (not-suc-le-zero h)
-  contains-step a (suc x) h l =
-      ap (λ (b : Bool). b || containsIn s x a (parent s (suc x))) (ne-eqb a (suc x) (λ e. omega arith))
-      ∙ contains-same s ro x (parent s (suc x)) a (parent s (suc x)) (parent-le-of-suc s ro x (suc x) (le-refl (suc x)) l) (le-refl (parent s (suc x))) (parent-n s ro (suc x) l)
+  contains-step a x h l =
+      bool-ext (contains s a x) (contains s a (parent s x))
+      (λ c. contains-i s ro (parent s x) (within-strict (contains-e s ro a x c) (λ e. omega arith) .1) (parent-n s ro x l))
+      (λ c. contains-i s ro x (up (omega arith) (contains-e s ro a (parent s x) c)) l)
 
   pub contains-end : (a x : ℕ) → x ≤ a → x < nOf s → contains s a x ≡ eqb x a
-  unfolding contains
   contains-end a x h l = go (eq-or-lt-of-le h)
     where
-      go : (x ≡ a) ⊎ (x < a) → containsIn s x a x ≡ eqb x a
-      go (inl e) = is-true (containsIn s x a x) (rw (sym e) (contains-i s ro x here l)) ∙ sym (eq-eqb x a e)
-      go (inr k) = is-false (containsIn s x a x) (λ c. omega (arith, containsIn-le s ro x a x l c)) ∙ sym (ne-eqb x a (λ e. omega arith))
+      go : (x ≡ a) ⊎ (x < a) → contains s a x ≡ eqb x a
+      go (inl e) = is-true (contains s a x) (rw (sym e) (contains-i s ro x here l)) ∙ sym (eq-eqb x a e)
+      go (inr k) = is-false (contains s a x) (λ c. omega (arith, within-le s ro (contains-e s ro a x c) l)) ∙ sym (ne-eqb x a (λ e. omega arith))
 
   -- ---- the meeting mode
 
