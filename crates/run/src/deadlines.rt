@@ -1,4 +1,4 @@
-// Readings during a run: each timer is kept by its deadline, the tick, counted from 1 in the call, in which its reading is 0.
+// Readings during a run: for each timer its deadline, the tick, counted from 1 in the call, in which its reading is 0.
 ghost use mathlib.Core.Path.{_≡_};
 ghost use mathlib.Core.Bool.{cond, true};
 ghost use Prim.Native.Nat.{ℕ, _+_, _-_, _%_, _^_, _<_, _≤_};
