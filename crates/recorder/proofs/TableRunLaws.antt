@@ -13,7 +13,7 @@ use Rattle.sets.proofs.Facts.{has-lt}
 use Rattle.sets.proofs.Membership.{has-meet}
 use Rattle.rows.specs.Over.{over}
 use Rattle.meaning.specs.Lists.{rowFrom, refusedIf}
-use Rattle.meaning.specs.Run.{State, reading, dueTimers, Run, ran}
+use Rattle.meaning.specs.Run.{State, reading, dueTimers, ran}
 use Rattle.meaning.specs.Table.{wordIn, kIn, bIn, sourceIn, delayIn, offsetIn, timersIn, cellsIn, cellWord, tableOk}
 use Rattle.meaning.specs.TableRun.{dueNumber, tableStateOk, cellOf, stateAfterCell, isStale, tableStep, tableTicks, tableRun}
 use Rattle.meaning.proofs.ListLaws.{rowFrom-length}

@@ -23,7 +23,8 @@ use Rattle.recorder.specs.declared.table_run.TableBlock.{TableBlock}
 use Rattle.recorder.specs.Runs.{TableBlockOf}
 use Rattle.recorder.proofs.TimerLaws.{delays-small}
 use Rattle.recorder.proofs.RestartLaws.{from-word}
-use Rattle.recorder.proofs.TableRunLaws.{stateAt, ReachedBlock, Chosen, start-low, start-block, start-state, later, ends-done, ends-foreign, number-small, cell-room, next-below, turn-stays, ends-stale, turn-moves}
+use Rattle.recorder.proofs.TableRunLaws.{stateAt, ReachedBlock, start-low, start-block, start-state, later, ends-done, ends-foreign, number-small}
+use Rattle.recorder.proofs.TableRunLaws.{Chosen, cell-room, next-below, turn-stays, ends-stale, turn-moves}
 use Rattle.recorder.proofs.table_run.ticks.Statement.{statement}
 use Rattle.recorder.proofs.table_run.ticks.Tie as tie
 
@@ -164,7 +165,9 @@ chosen c =
     }
 
 -- its words lie in the table, and so do their bytes in memory
-room : (c : tie.After-cell-number Inv-loop μ-loop) → let at = head c in at .loop .b .cells + 6 * c .cell-number .result + 6 ≤ length (start at .args .table .now)
+room : (c : tie.After-cell-number Inv-loop μ-loop)
+    → let at = head c in
+    at .loop .b .cells + 6 * c .cell-number .result + 6 ≤ length (start at .args .table .now)
 room c = cell-room (chosen c)
 
 wide : (c : tie.After-cell-number Inv-loop μ-loop) → length (start (head c) .args .table .now) < 2305843009213693952
