@@ -3,4 +3,4 @@ pub mod TimerLaws
 pub mod TableStateLaws
 pub mod BlockPlaceLaws
 pub mod RestartLaws
-pub mod RunLaws
+pub mod TableRunLaws

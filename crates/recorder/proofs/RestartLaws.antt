@@ -14,10 +14,10 @@ use Rattle.sets.proofs.Facts.{setOf-e, setOf-i, those-e, those-i, someIn-e, som
 use Rattle.sets.proofs.Membership.{has-none, has-meet, has-minus, has-setOf, has-those, setOf-lt, those-lt, minus-le, ext}
 use Rattle.sets.proofs.Members.{empty}
 use Rattle.meaning.specs.Lists.{rowFrom}
-use Rattle.meaning.specs.Run.{State, reading, dueTimers}
+use Rattle.meaning.specs.Run.{State, reading, dueTimers, nextState}
 use Rattle.meaning.specs.Table.{tIn, bIn, sourceIn, delayIn, timersIn, cellWord, tableOk}
 use Rattle.meaning.specs.TableRun.{stateAfterCell, isStale}
-use Rattle.meaning.proofs.RunLaws.{next-reading, due-at}
+use Rattle.meaning.proofs.ReadingLaws.{next-reading, due-at}
 use Rattle.table.proofs.Sound.{t-le, delay-pos, source-lt}
 use Rattle.recorder.specs.Timers.{timersBelow, timersFrom}
 use Rattle.recorder.proofs.RowStoreLaws.{row-at}
@@ -117,49 +117,49 @@ module _ (w : List ℕ) (h : T (tableOk w)) where
     enteredNow = cellWord w (q .at) c 1
 
     module _ (t : ℕ) (k : t < 64) (m : T (has timersNext t)) where
-      pub reading-after : reading (stateAfterCell w q c) t ≡ cond (has enteredNow (sourceIn w t)) (delayIn w t) (reading q t - 1)
-      unfolding stateAfterCell reading
+      pub reading-after : reading (stateAfterCell w q c .readings) t ≡ cond (has enteredNow (sourceIn w t)) (delayIn w t) (reading (q .readings) t - 1)
+      unfolding stateAfterCell nextState
       reading-after =
-          next-reading timersNext enteredNow (sourceIn w) (delayIn w) q t k
-          ∙ ap (λ (b : Bool). cond b (cond (has enteredNow (sourceIn w t)) (delayIn w t) (getD (q .readings) t 0 - 1)) 0) (is-true (has timersNext t) m)
+          next-reading timersNext enteredNow (sourceIn w) (delayIn w) (q .readings) t k
+          ∙ ap (λ (b : Bool). cond b (cond (has enteredNow (sourceIn w t)) (delayIn w t) (reading (q .readings) t - 1)) 0) (is-true (has timersNext t) m)
 
       -- a next timer has a reading left if the tick is not refused 15
-      pub reading-left : isStale w (stateAfterCell w q c) ≡ false → 0 < reading (stateAfterCell w q c) t
-      unfolding isStale stateAfterCell
+      pub reading-left : isStale w (stateAfterCell w q c) ≡ false → 0 < reading (stateAfterCell w q c .readings) t
+      unfolding isStale stateAfterCell nextState
       reading-left e =
           pos-of-ne-zero (λ z.
           of-false e
-          (someIn-i 64 timersNext (λ u. eqb (reading (stateAfterCell w q c) u) 0) t k m (of-true (eq-eqb (reading (stateAfterCell w q c) t) 0 z))))
+          (someIn-i 64 timersNext (λ u. eqb (reading (stateAfterCell w q c .readings) u) 0) t k m (of-true (eq-eqb (reading (stateAfterCell w q c .readings) t) 0 z))))
 
     -- the readings of timers that do not run are 0
-    module _ (idle : (t : ℕ) → t < 64 → has timersNow t ≡ false → reading q t ≡ 0) (due : ℕ) (de : due ≡ dueTimers timersNow q) where
-      lowered : (t : ℕ) → t < 64 → eqb (reading q t - 1) 0 ≡ not (has timersNow t && not (has due t))
+    module _ (idle : (t : ℕ) → t < 64 → has timersNow t ≡ false → reading (q .readings) t ≡ 0) (due : ℕ) (de : due ≡ dueTimers timersNow (q .readings)) where
+      lowered : (t : ℕ) → t < 64 → eqb (reading (q .readings) t - 1) 0 ≡ not (has timersNow t && not (has due t))
       lowered t k = go (has timersNow t) refl
         where
-          go : (b : Bool) → has timersNow t ≡ b → eqb (reading q t - 1) 0 ≡ not (b && not (has due t))
+          go : (b : Bool) → has timersNow t ≡ b → eqb (reading (q .readings) t - 1) 0 ≡ not (b && not (has due t))
           go true e =
-              sym (Bool·not-not (eqb (reading q t - 1) 0))
-              ∙ ap (λ (b : Bool). not (not b)) (sym (ap (λ (x : ℕ). has x t) de ∙ due-at timersNow q t k ∙ ap (λ (b : Bool). b && eqb (reading q t - 1) 0) e))
-          go false e = eq-eqb (reading q t - 1) 0 (omega (arith, idle t k e))
+              sym (Bool·not-not (eqb (reading (q .readings) t - 1) 0))
+              ∙ ap (λ (b : Bool). not (not b)) (sym (ap (λ (x : ℕ). has x t) de ∙ due-at timersNow (q .readings) t k ∙ ap (λ (b : Bool). b && eqb (reading (q .readings) t - 1) 0) e))
+          go false e = eq-eqb (reading (q .readings) t - 1) 0 (omega (arith, idle t k e))
 
       -- a next timer has no reading left just if it was not entered, and did not run or is due
       spent : (t : ℕ) → t < 64 → T (has timersNext t)
-          → eqb (reading (stateAfterCell w q c) t) 0 ≡ (not (has enteredNow (sourceIn w t)) && not (has timersNow t && not (has due t)))
+          → eqb (reading (stateAfterCell w q c .readings) t) 0 ≡ (not (has enteredNow (sourceIn w t)) && not (has timersNow t && not (has due t)))
       spent t k m = ap (λ (r : ℕ). eqb r 0) (reading-after t k m) ∙ go (has enteredNow (sourceIn w t))
         where
-          go : (b : Bool) → eqb (cond b (delayIn w t) (reading q t - 1)) 0 ≡ (not b && not (has timersNow t && not (has due t)))
+          go : (b : Bool) → eqb (cond b (delayIn w t) (reading (q .readings) t - 1)) 0 ≡ (not b && not (has timersNow t && not (has due t)))
           go true = ne-eqb (delayIn w t) 0 (λ z. omega (arith, delay-pos w h (cellWord w (q .at) c 0) l t m k))
           go false = lowered t k
 
       -- the test for 15, by the timers that start again
       pub stale-is : (again : ℕ) → timersNext < 2 ^ 64 → ((t : ℕ) → t < 64 → T (has timersNext t) → has again t ≡ has enteredNow (sourceIn w t))
           → isStale w (stateAfterCell w q c) ≡ not (eqb (minus (minus timersNext again) (minus timersNow due)) 0)
-      unfolding isStale stateAfterCell
+      unfolding isStale stateAfterCell nextState
       stale-is again small ae =
           some-those 64 timersNext p ∙ ap (λ (x : ℕ). not (eqb x 0)) (sym same)
         where
           p : ℕ → Bool
-          p t = eqb (reading (stateAfterCell w q c) t) 0
+          p t = eqb (reading (stateAfterCell w q c .readings) t) 0
 
           at : (b a x y : Bool) → (T b → y ≡ (not a && not x)) → ((b && not a) && not x) ≡ (b && y)
           at true a x y e = sym (e tt)
@@ -177,11 +177,11 @@ module _ (w : List ℕ) (h : T (tableOk w)) where
       -- a tick with the same timers next, none due and no source entered is not refused
       pub stays : timersNext ≡ timersNow → due ≡ 0 → ((t : ℕ) → t < 64 → T (has timersNext t) → has enteredNow (sourceIn w t) ≡ false)
           → isStale w (stateAfterCell w q c) ≡ false
-      unfolding isStale stateAfterCell
+      unfolding isStale stateAfterCell nextState
       stays e z n = is-false (someIn 64 timersNext p) (λ g. let r = someIn-e 64 timersNext p g in of-false (left (r .0) (r .1) (r .2)) (r .3))
         where
           p : ℕ → Bool
-          p t = eqb (reading (stateAfterCell w q c) t) 0
+          p t = eqb (reading (stateAfterCell w q c .readings) t) 0
 
           left : (t : ℕ) → t < 64 → T (has timersNext t) → p t ≡ false
           left t k m =

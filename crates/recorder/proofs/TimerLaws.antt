@@ -16,7 +16,7 @@ use Rattle.meaning.specs.Lists.{rowFrom}
 use Rattle.meaning.specs.Table.{tIn, sourceIn, delayIn, tableOk}
 use Rattle.meaning.proofs.ListLaws.{rowFrom-ext}
 use Rattle.table.proofs.Sound.{delay-lt}
-use Rattle.recorder.specs.Timers.{delayOr0, timersBelow, timersFrom}
+use Rattle.recorder.specs.Timers.{timerDelayIn, timersBelow, timersFrom}
 use Rattle.recorder.proofs.RowStoreLaws.{row-at, row-zeros, row-set}
 
 module _ (w : List ℕ) where
@@ -41,19 +41,19 @@ module _ (w : List ℕ) where
           ap (λ (b : Bool). cond b (delayIn w j) 0)
           (bool-ext (ltb j t) (ltb j (t + 1)) (λ h. lt→ltb j (t + 1) (omega (arith, ltb→lt j t h))) (λ h. lt→ltb j t (omega (arith, ltb→lt j (t + 1) h))))
 
-  pub delays-done : (t : ℕ) → t ≡ tIn w → rowFrom 0 64 (delaysBelow t) ≡ rowFrom 0 64 (delayOr0 w)
-  unfolding delayOr0
+  pub delays-done : (t : ℕ) → t ≡ tIn w → rowFrom 0 64 (delaysBelow t) ≡ rowFrom 0 64 (timerDelayIn w)
+  unfolding timerDelayIn
   delays-done t e = ap (λ (n : ℕ). rowFrom 0 64 (delaysBelow n)) e
 
   -- the delay of a timer stands among them
-  pub delay-at : (t : ℕ) → t < 64 → t < tIn w → getD (rowFrom 0 64 (delayOr0 w)) t 0 ≡ delayIn w t
-  unfolding delayOr0
-  delay-at t l k = row-at 64 (delayOr0 w) t l ∙ rw (lt-ltb t (tIn w) k)
+  pub delay-at : (t : ℕ) → t < 64 → t < tIn w → getD (rowFrom 0 64 (timerDelayIn w)) t 0 ≡ delayIn w t
+  unfolding timerDelayIn
+  delay-at t l k = row-at 64 (timerDelayIn w) t l ∙ rw (lt-ltb t (tIn w) k)
 
   -- they are below 65,536
-  pub delays-small : T (tableOk w) → (t : ℕ) → t < 64 → getD (rowFrom 0 64 (delayOr0 w)) t 0 < 65536
-  unfolding delayOr0
-  delays-small h t l = subst (λ (x : ℕ). x < 65536) (sym (row-at 64 (delayOr0 w) t l)) (go (ltb t (tIn w)))
+  pub delays-small : T (tableOk w) → (t : ℕ) → t < 64 → getD (rowFrom 0 64 (timerDelayIn w)) t 0 < 65536
+  unfolding timerDelayIn
+  delays-small h t l = subst (λ (x : ℕ). x < 65536) (sym (row-at 64 (timerDelayIn w) t l)) (go (ltb t (tIn w)))
     where
       go : (b : Bool) → cond b (delayIn w t) 0 < 65536
       go true = delay-lt w h t

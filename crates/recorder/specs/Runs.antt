@@ -5,9 +5,9 @@ use Prim.Native.Nat.{ℕ, _+_}
 use Rattle.meaning.specs.Refusal.{numberOf}
 use Rattle.meaning.specs.Run as meaning
 use Rattle.meaning.specs.Table.{offsetIn, timersIn}
-use Rattle.run.specs.Runs.{stateOf}
+use Rattle.run.specs.States.{stateOf}
 use Rattle.recorder.specs.declared.table_run.Ran.{Ran}
-use Rattle.recorder.specs.declared.table_run.Block.{Block}
+use Rattle.recorder.specs.declared.table_run.TableBlock.{TableBlock}
 
 -- what a table run returns, and its output words at exit; a table has no rounds
 abbrev pub ranOf : Ran → List ℕ → meaning.Run
@@ -15,5 +15,5 @@ ranOf r out =
     record { done = r .done .0; state = stateOf (r .state); refusal = numberOf (r .refusal); rounds = 0; out = out }
 
 -- the struct of a block holds what the table says of it
-abbrev pub BlockOf : List ℕ → Block → Type 0
-BlockOf w b = (b .cells ≡ offsetIn w (b .number) + 3) × (b .timers ≡ timersIn w (b .number))
+abbrev pub TableBlockOf : List ℕ → TableBlock → Type 0
+TableBlockOf w b = (b .cells ≡ offsetIn w (b .number) + 3) × (b .timers ≡ timersIn w (b .number))

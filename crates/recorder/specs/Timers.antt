@@ -8,8 +8,8 @@ use Rattle.meaning.specs.Table.{tIn, sourceIn, delayIn}
 
 module _ (w : List ℕ) where
   -- the delay of a timer, 0 for other transitions
-  unfoldable pub delayOr0 : ℕ → ℕ
-  delayOr0 t = cond (ltb t (tIn w)) (delayIn w t) 0
+  unfoldable pub timerDelayIn : ℕ → ℕ
+  timerDelayIn t = cond (ltb t (tIn w)) (delayIn w t) 0
 
   -- the timers with source m, of the transitions below n
   unfoldable pub timersBelow : ℕ → ℕ → ℕ

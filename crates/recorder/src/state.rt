@@ -4,21 +4,24 @@ ghost use mathlib.Core.Bool.{true};
 ghost use Rattle.meaning.specs.Lists.{rowFrom};
 ghost use Rattle.meaning.specs.Table.{tableOk};
 ghost use Rattle.meaning.specs.TableRun.{tableStateOk};
-ghost use Rattle.recorder.specs.Timers.{delayOr0};
+ghost use Rattle.run.specs.States.{stateOf};
+ghost use Rattle.recorder.specs.Timers.{timerDelayIn};
+use run::state::State;
 use run::state::readings_ok;
 use table::words::block_count;
 use table::words::offset;
 use table::words::timers_at;
 
 // The block exists, and its readings are sound: 14 if not. Block 0 has no timers, so with it the state is fresh.
-pub fn state_ok(table: &[u32], delays: &[u64; 64], block: u32, readings: &[u32; 64]) -> bool
-    requires { ⌜ (tableOk (now table) ≡ true) × (now delays ≡ rowFrom 0 64 (delayOr0 (now table))) ⌝ }
-    ensures { λ r. ⌜ r ≡ tableStateOk (now (table .entry)) (record { at = block; readings = now (readings .entry) }) ⌝ }
+pub fn state_ok(table: &[u32], delays: &[u64; 64], state: State) -> bool
+    requires { ⌜ (tableOk (now table) ≡ true) × (now delays ≡ rowFrom 0 64 (timerDelayIn (now table))) ⌝ }
+    ensures { λ r. ⌜ r ≡ tableStateOk (now (table .entry)) (stateOf state) ⌝ }
 {
-    let b = block as usize;
+    let b = state.at as usize;
     if block_count(table) <= b {
         return false;
     }
     let at = offset(table, b);
-    readings_ok(delays, timers_at(table, at), readings)
+    let readings = state.readings;
+    readings_ok(delays, timers_at(table, at), &readings)
 }

@@ -12,9 +12,10 @@ ghost use Rattle.meaning.specs.Refusal.{numberOf};
 ghost use Rattle.meaning.specs.Run.{ran};
 ghost use Rattle.meaning.specs.Table.{wordIn, bIn, tableOk};
 ghost use Rattle.meaning.specs.TableRun.{tableStateOk, tableTicks, tableRun};
-ghost use Rattle.run.specs.Runs.{stateOf, endedRun};
-ghost use Rattle.recorder.specs.Timers.{delayOr0};
-ghost use Rattle.recorder.specs.Runs.{ranOf, BlockOf};
+ghost use Rattle.run.specs.States.{stateOf};
+ghost use Rattle.run.specs.Runs.{endedRun};
+ghost use Rattle.recorder.specs.Timers.{timerDelayIn};
+ghost use Rattle.recorder.specs.Runs.{ranOf, TableBlockOf};
 use super::state::state_ok;
 use super::timers::delays;
 use super::timers::sources;
@@ -26,9 +27,9 @@ use rows::put_five;
 use run::counts::Ticks;
 use run::deadlines::deadlines;
 use run::deadlines::due;
-use run::deadlines::readings_at;
 use run::deadlines::restart;
 use run::state::State;
+use run::state::state_at;
 use sets::transitions;
 use table::table_ok;
 use table::words::event_count;
@@ -43,18 +44,18 @@ pub struct Ran {
 }
 
 // A block: its number, where its cells begin, its running timers.
-struct Block {
+struct TableBlock {
     number: u32,
     cells: usize,
     timers: u64,
 }
 
-fn block_at(table: &[u32], number: u32) -> Block
+fn block_at(table: &[u32], number: u32) -> TableBlock
     requires { ⌜ (tableOk (now table) ≡ true) × (number < bIn (now table)) ⌝ }
-    ensures { λ r. ⌜ (r .number ≡ number) × BlockOf (now (table .entry)) r ⌝ }
+    ensures { λ r. ⌜ (r .number ≡ number) × TableBlockOf (now (table .entry)) r ⌝ }
 {
     let at = offset(table, number as usize);
-    Block {
+    TableBlock {
         number,
         cells: at + 3,
         timers: timers_at(table, at),
@@ -84,32 +85,37 @@ fn five_at(table: &[u32], cell: usize) -> Five
 }
 
 // Of the timers that go on, one did not run or is due: it has no reading left.
-fn is_stale(timers: u64, due: u64, kept: u64) -> bool
-    ensures { λ r. ⌜ r ≡ not (eqb (minus kept (minus timers due)) 0) ⌝ }
+fn is_stale(timers: u64, due: u64, lasting: u64) -> bool
+    ensures { λ r. ⌜ r ≡ not (eqb (minus lasting (minus timers due)) 0) ⌝ }
 {
-    transitions::minus(kept, transitions::minus(timers, due)) != 0
+    transitions::minus(lasting, transitions::minus(timers, due)) != 0
 }
 
 // A run that ends after some ticks in a block; no deadline of its timers is past.
-fn ended(ends: &[u64; 64], b: Block, done: usize, why: Refusal) -> Ran
+fn ended(ends: &[u64; 64], b: TableBlock, done: usize, why: Refusal) -> Ran
     requires { ⌜ ((t : ℕ) → has (b .timers) t ≡ true → done ≤ getD (now ends) t 0) ⌝ }
-    ensures { λ r. ⌜ ((out : List ℕ) → ranOf r out ≡ endedRun (now (ends .entry)) (b .number) (b .timers) done 0 (numberOf why) out) ⌝ }
+    ensures { λ r. ⌜ ((out : List ℕ) →
+        ranOf r out ≡ endedRun (now (ends .entry)) (b .number) (b .timers) done 0 (numberOf why) out) ⌝ }
 {
-    let readings = readings_at(ends, b.timers, done as u64);
+    let state = state_at(ends, b.number, b.timers, done as u64);
     Ran {
         done: Ticks(done),
-        state: State {
-            at: b.number,
-            readings,
-        },
+        state,
         refusal: why,
     }
 }
 
-// Tick by tick: 13, then 15. A tick that stays in its block, with no timer due and no timer's source entered, moves no deadline.
+// Tick by tick: 13, then 15. A tick that stays in its block, with no timer due and no timer's source entered, moves no
+// deadline.
 fn ticks(table: &[u32], delays: &[u64; 64], start: State, inputs: &[u32], out: &mut [u32]) -> Ran
-    requires { ⌜ (tableOk (now table) ≡ true) × (now delays ≡ rowFrom 0 64 (delayOr0 (now table))) × (tableStateOk (now table) (stateOf start) ≡ true) × (5 * length (now inputs) ≤ length (now out)) ⌝ }
-    ensures { λ r. ⌜ ranOf r (now (out .exit)) ≡ ran (now (out .entry)) (tableTicks (now (table .entry)) (now (inputs .entry)) (stateOf start)) ⌝ }
+    requires { ⌜
+        (tableOk (now table) ≡ true)
+        × (now delays ≡ rowFrom 0 64 (timerDelayIn (now table)))
+        × (tableStateOk (now table) (stateOf start) ≡ true)
+        × (5 * length (now inputs) ≤ length (now out)) ⌝ }
+    ensures { λ r. ⌜
+        ranOf r (now (out .exit))
+        ≡ ran (now (out .entry)) (tableTicks (now (table .entry)) (now (inputs .entry)) (stateOf start)) ⌝ }
 {
     let k = event_count(table);
     let from = timers_from(table);
@@ -145,7 +151,8 @@ fn ticks(table: &[u32], delays: &[u64; 64], start: State, inputs: &[u32], out: &
 
 // A run that stops before any tick.
 fn stops(state: State, why: Refusal) -> Ran
-    ensures { λ r. ⌜ ((out : List ℕ) → ranOf r out ≡ record { done = 0; state = stateOf state; refusal = numberOf why; rounds = 0; out = out }) ⌝ }
+    ensures { λ r. ⌜ ((out : List ℕ) →
+        ranOf r out ≡ record { done = 0; state = stateOf state; refusal = numberOf why; rounds = 0; out = out }) ⌝ }
 {
     Ran {
         done: Ticks(0),
@@ -154,17 +161,18 @@ fn stops(state: State, why: Refusal) -> Ran
     }
 }
 
-// The table run, on any table words, state, input sets and output words: 15, 14, 12, then tick by tick 13, then 15. A refused tick
-// leaves the state of the tick before; only the five words of each done tick are written, at 5p.
+// The table run, on any table words, state, input sets and output words: 15, 14, 12, then tick by tick 13, then 15. A
+// refused tick leaves the state of the tick before; only the five words of each done tick are written, at 5p.
 pub fn run(table: &[u32], state: State, inputs: &[u32], out: &mut [u32]) -> Ran
-    ensures { λ r. ⌜ ranOf r (now (out .exit)) ≡ tableRun (now (table .entry)) (stateOf state) (now (inputs .entry)) (now (out .entry)) ⌝ }
+    ensures { λ r. ⌜
+        ranOf r (now (out .exit))
+        ≡ tableRun (now (table .entry)) (stateOf state) (now (inputs .entry)) (now (out .entry)) ⌝ }
 {
     if !table_ok(table) {
         return stops(state, Refusal::Layout);
     }
     let delays = delays(table);
-    let readings = state.readings;
-    if !state_ok(table, &delays, state.at, &readings) {
+    if !state_ok(table, &delays, state) {
         return stops(state, Refusal::State);
     }
     if out.len() / 5 < inputs.len() {

@@ -7,7 +7,7 @@ ghost use lib.ListN.{getD};
 ghost use Rattle.sets.specs.Sets.{has, setOf, someIn};
 ghost use Rattle.meaning.specs.Lists.{rowFrom};
 ghost use Rattle.meaning.specs.Table.{tableOk};
-ghost use Rattle.recorder.specs.Timers.{delayOr0, timersFrom};
+ghost use Rattle.recorder.specs.Timers.{timerDelayIn, timersFrom};
 use sets::modes;
 use sets::transitions;
 use table::words::timer_delay;
@@ -17,7 +17,7 @@ use table::words::transition_count;
 // The delay of each timer, 0 for other transitions.
 pub fn delays(table: &[u32]) -> [u64; 64]
     requires { ⌜ tableOk (now table) ≡ true ⌝ }
-    ensures { λ r. ⌜ r ≡ rowFrom 0 64 (delayOr0 (now (table .entry))) ⌝ }
+    ensures { λ r. ⌜ r ≡ rowFrom 0 64 (timerDelayIn (now (table .entry))) ⌝ }
 {
     let count = transition_count(table);
     let mut r = [0u64; 64];

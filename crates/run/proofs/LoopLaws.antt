@@ -120,21 +120,22 @@ module _ (k : ℕ) (step : State → ℕ → Step) (inputs out₀ : List ℕ) (q
 
 -- ---- the whole run: what is refused before any tick, else the ticks
 
-module _ (k : ℕ) (step : State → ℕ → Step) (refusal : ℕ) (ok : Bool) (q : State) (inputs out : List ℕ) where
-  abbrev pub stopped : ℕ → Run
-  stopped e = record { done = 0; state = q; refusal = e; rounds = 0; out = out }
+-- a run that stops before any tick
+abbrev pub stopped : State → List ℕ → ℕ → Run
+stopped q out e = record { done = 0; state = q; refusal = e; rounds = 0; out = out }
 
-  stopped-is : (e : ℕ) → stopped e ≡ ran out (stops e q)
+module _ (k : ℕ) (step : State → ℕ → Step) (refusal : ℕ) (ok : Bool) (q : State) (inputs out : List ℕ) where
+  stopped-is : (e : ℕ) → stopped q out e ≡ ran out (stops e q)
   unfolding ran stops overwritten
   stopped-is e = refl
 
-  pub stopped-refused : {e : ℕ} → e ≡ refusal → (e ≡ 0 → ⊥) → stopped e ≡ run k step refusal ok q inputs out
-  stopped-refused z n = ap stopped z ∙ stopped-is refusal ∙ sym (run-refused k step refusal ok q inputs out (λ h. n (z ∙ h)))
+  pub stopped-refused : {e : ℕ} → e ≡ refusal → (e ≡ 0 → ⊥) → stopped q out e ≡ run k step refusal ok q inputs out
+  stopped-refused z n = ap (stopped q out) z ∙ stopped-is refusal ∙ sym (run-refused k step refusal ok q inputs out (λ h. n (z ∙ h)))
 
-  pub stopped-state : refusal ≡ 0 → ok ≡ false → stopped 14 ≡ run k step refusal ok q inputs out
+  pub stopped-state : refusal ≡ 0 → ok ≡ false → stopped q out 14 ≡ run k step refusal ok q inputs out
   stopped-state z e = stopped-is 14 ∙ sym (run-state k step refusal ok q inputs out z e)
 
-  pub stopped-short : refusal ≡ 0 → ok ≡ true → length out / 5 < length inputs → stopped 12 ≡ run k step refusal ok q inputs out
+  pub stopped-short : refusal ≡ 0 → ok ≡ true → length out / 5 < length inputs → stopped q out 12 ≡ run k step refusal ok q inputs out
   stopped-short z e h =
       stopped-is 12 ∙ sym (run-short k step refusal ok q inputs out z e (unfold outputShort in (lt-ltb (length out) (5 * length inputs) (omega arith))))
 

@@ -1,4 +1,4 @@
-// Readings during a run: each timer is kept by its deadline, the tick, counted from 1 in the call, in which its reading is 0.
+// Readings during a run: for each timer its deadline, the tick, counted from 1 in the call, in which its reading is 0.
 ghost use mathlib.Core.Path.{_≡_};
 ghost use mathlib.Core.Bool.{cond, true};
 ghost use Prim.Native.Nat.{ℕ, _+_, _-_, _%_, _^_, _<_, _≤_};
@@ -68,7 +68,8 @@ pub fn restart(delays: &[u64; 64], ends: &mut [u64; 64], set: u64, tick: u64)
     requires { ⌜ (length (now ends) ≡ 64) × (tick < 2 ^ 62) × ((t : ℕ) → t < 64 → getD (now delays) t 0 < 2 ^ 32) ⌝ }
     ensures { λ _. ⌜
         now (ends .exit)
-        ≡ rowFrom 0 64 (λ t. cond (has set t) (tick + getD (now (delays .entry)) t 0) (getD (now (ends .entry)) t 0)) ⌝ }
+        ≡ rowFrom 0 64 (λ t.
+        cond (has set t) (tick + getD (now (delays .entry)) t 0) (getD (now (ends .entry)) t 0)) ⌝ }
 {
     let mut rest = set;
     while rest != 0 {

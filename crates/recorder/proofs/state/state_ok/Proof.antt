@@ -4,52 +4,74 @@ use mathlib.Core.List.{List}
 use borrow.Author.Needs.{needs}
 use Prim.Native.Nat.{ℕ, _<_}
 use native.Mathlib.Omega.{arith}
+use lib.Dec.{T}
 use lib.ListN.{getD}
 use Rattle.sets.proofs.Tests.{of-true}
 use Rattle.meaning.specs.Run.{readingsOk}
-use Rattle.meaning.specs.Table.{bIn}
+use Rattle.meaning.specs.Table.{bIn, tableOk}
+use Rattle.run.specs.States.{stateOf}
 use Rattle.table.proofs.Sound.{head-sound}
 use Rattle.recorder.proofs.BlockPlaceLaws.{header-inside, timers-are}
 use Rattle.recorder.proofs.TableStateLaws.{state-outside, state-inside}
 use Rattle.recorder.proofs.state.state_ok.Statement.{statement}
 use Rattle.recorder.proofs.state.state_ok.Tie as tie
 
+-- the function's entry, from where the blocks are counted; that place from where the block's offset is read; that place at the end
+abbrev entry : tie.After-block-count → tie.Start
+entry c = c .before .before .before
+
+abbrev counted : tie.After-offset → tie.Else1
+counted c = c .before
+
+abbrev place : tie.After-readings-ok → tie.After-offset
+place c = c .before .before .before .before
+
+sound : (s : tie.Start) → T (tableOk (s .args .table .now))
+sound s = of-true (s .pre .0)
+
+-- the block is there
+inside : (c : tie.Else1) → let a = entry (c .before) .args in a .state .at < bIn (a .table .now)
+inside c = omega (arith, c .before .block-count .ensures)
+
+cast-b : tie.Need-cast-b
+cast-b c = search needs
+
 block-count-requires : tie.Need-block-count-requires
-block-count-requires c κs = head-sound _ (of-true (c .before .pre .0))
+block-count-requires c κs = head-sound _ (sound (c .before .before))
 
 returns : tie.Need-returns
 returns c =
-    let s = c .before .before .before in
-    state-outside (s .args .table .now) (of-true (s .pre .0)) (s .args .block) (s .args .readings .now) (omega (arith, c .before .block-count .ensures))
-
--- the block is there
-inside : (c : tie.Else1) → c .before .before .before .args .block < bIn (c .before .before .before .args .table .now)
-inside c = omega (arith, c .before .block-count .ensures)
+    let s = entry (c .before) in
+    state-outside (s .args .table .now) (sound s) (stateOf (s .args .state)) (omega (arith, c .before .block-count .ensures))
 
 offset-requires : tie.Need-offset-requires
-offset-requires c κs = (head-sound _ (of-true (c .before .before .before .pre .0)), inside c)
+offset-requires c κs = (head-sound _ (sound (entry (c .before))), inside c)
 
 timers-at-requires : tie.Need-timers-at-requires
 timers-at-requires c κs =
-    let s = c .before .before .before .before in
-    omega (arith, c .offset .ensures, header-inside (s .args .table .now) (of-true (s .pre .0)) (s .args .block) (inside (c .before)))
+    let at = c .before in
+    let s = entry (counted at .before) in
+    omega (arith, at .offset .ensures, header-inside (s .args .table .now) (sound s) (s .args .state .at) (inside (counted at)))
 
 readings-ok-requires : tie.Need-readings-ok-requires
 readings-ok-requires c κs = search needs
 
 returns-2 : tie.Need-returns-2
 returns-2 c =
-    let s = c .before .before .before .before .before .before in
+    let at = place c in
+    let s = entry (counted at .before) in
     let w = s .args .table .now in
+    let q = stateOf (s .args .state) in
     c .readings-ok .ensures
-    ∙ ap₂ (λ (y : ℕ) (d : List ℕ). readingsOk y (λ t. getD d t 0) (record { at = 0; readings = s .args .readings .now }))
-    (c .before .timers-at .ensures ∙ timers-are w (s .args .block) (c .before .before .offset .ensures)) (s .pre .1)
-    ∙ state-inside w (of-true (s .pre .0)) (s .args .block) (s .args .readings .now) (inside (c .before .before .before))
+    ∙ ap₂ (λ (y : ℕ) (d : List ℕ). readingsOk y (λ t. getD d t 0) (q .readings))
+    (c .before .before .timers-at .ensures ∙ timers-are w (q .at) (at .offset .ensures)) (s .pre .1)
+    ∙ state-inside w (sound s) q (inside (counted at))
 
 pub state-ok-spec : {M : Type 1} → statement M
 state-ok-spec =
     tie.close
     (tie.spec
+    cast-b
     block-count-requires
     returns
     offset-requires

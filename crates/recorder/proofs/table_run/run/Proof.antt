@@ -6,25 +6,34 @@ use borrow.Author.Needs.{needs}
 use Rattle.sets.proofs.Loops.{passed, failed}
 use Rattle.meaning.specs.Table.{tableOk}
 use Rattle.meaning.specs.TableRun.{tableStateOk}
-use Rattle.run.specs.Runs.{stateOf}
-use Rattle.recorder.proofs.RunLaws.{run-bad-table, run-bad-state, run-short, run-ticks}
+use Rattle.run.specs.States.{stateOf}
+use Rattle.recorder.proofs.TableRunLaws.{run-bad-table, run-bad-state, run-short, run-ticks}
 use Rattle.recorder.proofs.table_run.run.Statement.{statement}
 use Rattle.recorder.proofs.table_run.run.Tie as tie
 
--- the function's entry, from where the table is checked, and that place from where the state is
+-- ---- the places that the needs go back to, each from the one after it: the entry, the table checked, the state checked, all checked
+
 abbrev entry : tie.After-table-ok → tie.Start
 entry c = c .before .before .before .before
 
 abbrev checked : tie.After-state-ok → tie.Else1
-checked c = c .before .before .before .before .before
+checked c = c .before .before .before
+
+abbrev admitted : tie.Else3 → tie.Else2
+admitted c = c .before
+
+abbrev ready : tie.After-ticks → tie.Else3
+ready c = c .before .before .before
+
+-- ---- what holds there
 
 -- the layout is sound
 sound : (c : tie.Else1) → tableOk (entry (c .before) .args .table .now) ≡ true
 sound c = passed (c .before .table-ok .ensures) (c .if1 .left)
 
 -- the state is sound
-admitted : (c : tie.Else2) → let a = entry (checked (c .before) .before) .args in tableStateOk (a .table .now) (stateOf (a .state)) ≡ true
-admitted c = passed (c .before .state-ok .ensures) (c .if2 .left)
+state-sound : (c : tie.Else2) → let a = entry (checked (c .before) .before) .args in tableStateOk (a .table .now) (stateOf (a .state)) ≡ true
+state-sound c = passed (c .before .state-ok .ensures) (c .if2 .left)
 
 table-ok-requires : tie.Need-table-ok-requires
 table-ok-requires c κs = search needs
@@ -42,7 +51,7 @@ delays-requires : tie.Need-delays-requires
 delays-requires c κs = sound c
 
 state-ok-requires : tie.Need-state-ok-requires
-state-ok-requires c κs = (sound (c .before .before .before .before), c .before .before .before .delays .ensures)
+state-ok-requires c κs = (sound (c .before .before), c .before .delays .ensures)
 
 stops-requires-2 : tie.Need-stops-requires-2
 stops-requires-2 c κs = search needs
@@ -59,26 +68,31 @@ stops-requires-3 c κs = search needs
 
 returns-3 : tie.Need-returns-3
 returns-3 c =
-    let on = checked (c .before .before .before) in
+    let state = c .before .before in
+    let on = checked (state .before) in
     let a = entry (on .before) .args in
     c .stops3 .ensures (a .out .now)
-    ∙ run-short (a .table .now) (a .inputs .now) (a .out .now) (stateOf (a .state)) (sound on) (admitted (c .before .before)) (c .before .if3 .taken)
+    ∙ run-short (a .table .now) (a .inputs .now) (a .out .now) (stateOf (a .state)) (sound on) (state-sound state) (c .before .if3 .taken)
 
 ticks-requires : tie.Need-ticks-requires
 ticks-requires c κs =
-    let state = c .before .before .before in
-    (sound (checked (state .before)), state .before .before .before .before .before .delays .ensures, admitted state, omega (arith, c .before .before .if3 .left))
+    let room = c .before .before in
+    let state = admitted room in
+    let on = checked (state .before) in
+    (sound on, state .before .before .before .delays .ensures, state-sound state, omega (arith, room .if3 .left))
 
 same-length : tie.Need-same-length
 same-length c = search needs
 
 returns-4 : tie.Need-returns-4
 returns-4 c =
-    let state = c .before .before .before .before .before .before in
+    let end = c .before .before in
+    let room = ready end in
+    let state = admitted room in
     let on = checked (state .before) in
     let a = entry (on .before) .args in
-    c .before .before .ticks .ensures
-    ∙ run-ticks (a .table .now) (a .inputs .now) (a .out .now) (stateOf (a .state)) (sound on) (admitted state) (omega (arith, c .before .before .before .before .before .if3 .left))
+    end .ticks .ensures
+    ∙ run-ticks (a .table .now) (a .inputs .now) (a .out .now) (stateOf (a .state)) (sound on) (state-sound state) (omega (arith, room .if3 .left))
 
 pub run-spec : {M : Type 1} → statement M
 run-spec =

@@ -19,34 +19,41 @@ Inv-loop table count r₀ t₀ r t = (t ≤ count) × (count ≤ 64) × (r ≡ r
 abbrev μ-loop : tie.MeasureT-loop
 μ-loop table count r₀ t₀ r t = count - t
 
+-- the places that the needs go back to: the entry, from where the transitions are counted; the loop's head, from where the delay is read
+abbrev entry : tie.After-transition-count Inv-loop μ-loop → tie.Start Inv-loop μ-loop
+entry c = c .before .before
+
+abbrev head : tie.After-timer-delay Inv-loop μ-loop → tie.At-loop Inv-loop μ-loop
+head c = c .before .before
+
 transition-count-requires : tie.Need-transition-count-requires Inv-loop μ-loop
 transition-count-requires c κs = head-sound _ (of-true (c .before .pre))
 
 loop-holds : tie.Need-loop-holds Inv-loop μ-loop
 loop-holds c =
-    let s = c .before .before in
+    let s = entry c in
     (omega arith, omega (arith, t-le (s .args .table .now) (of-true (s .pre))), timers-start (s .args .table .now))
 
 timer-delay-requires : tie.Need-timer-delay-requires Inv-loop μ-loop
 timer-delay-requires c κs =
-    let s = c .before .before .before .before in
+    let s = entry (c .before .before) in
     (head-sound (s .args .table .now) (of-true (s .pre)), search needs)
 
 timer-source-requires : tie.Need-timer-source-requires Inv-loop μ-loop
 timer-source-requires c κs =
-    let s = c .before .before .before .before .before .before in
+    let s = entry (head (c .before) .before) in
     (head-sound (s .args .table .now) (of-true (s .pre)), search needs)
 
 -- the source of a timer is a mode
 source-small : (c : tie.After-timer-source Inv-loop μ-loop) → c .timer-source .result < 32
 source-small c =
-    let s = c .before .before .before .before .before .before .before in
-    let t = c .before .before .before .before .loop .t in
-    let w = s .args .table .now in
+    let delay = c .before .before in
+    let at = head delay in
+    let s = entry (at .before) in
     omega (
       arith,
       c .timer-source .ensures,
-      source-lt w (of-true (s .pre)) t (omega (arith, c .before .before .before .before .before .transition-count .ensures)) (omega (arith, c .before .before .timer-delay .ensures)),
+      source-lt (s .args .table .now) (of-true (s .pre)) (at .loop .t) (omega (arith, at .before .transition-count .ensures)) (omega (arith, delay .timer-delay .ensures)),
     )
 
 mul-r : tie.Need-mul-r Inv-loop μ-loop
@@ -72,8 +79,9 @@ loop-less c = search needs
 
 loop-again : tie.Need-loop-again Inv-loop μ-loop
 loop-again c =
-    let l = c .before .before .before .loop in
-    let w = c .before .before .before .before .before .before .args .table .now in
+    let at = head (c .before) in
+    let l = at .loop in
+    let w = entry (at .before) .args .table .now in
     let e = c .before .timer-delay .ensures in (
       omega arith,
       l .inv .1,
@@ -88,7 +96,7 @@ loop-again c =
 returns : tie.Need-returns Inv-loop μ-loop
 returns c =
     let l = c .before .loop in
-    let a = c .before .before .before .before .args in
+    let a = entry (c .before .before) .args in
     l .inv .2 ∙ timers-done (a .table .now) (l .t) (le-antisymm (l .inv .0) (c .loop-test .left) ∙ c .before .before .transition-count .ensures)
 
 pub timers-from-spec : {M : Type 1} → statement M

@@ -45,21 +45,28 @@ element-copy-out-reading-ok-2 c = search needs
 reading-ok-requires : tie.Need-reading-ok-requires Inv-loop μ-loop
 reading-ok-requires c κs = search needs
 
+-- the loop's head, from where the reading is tested
+abbrev head : tie.After-reading-ok Inv-loop μ-loop → tie.At-loop Inv-loop μ-loop
+head c = c .before .before .before .before .before
+
 -- what `reading_ok` said
 said : (c : tie.After-reading-ok Inv-loop μ-loop)
-    → let a = c .before .before .before .before .before .before .args in
-    c .reading-ok .result ≡ fits (a .delays .now) (a .timers) (a .readings .now) (c .before .before .before .before .before .loop .t)
+    → let at = head c in
+    let a = at .before .args in
+    c .reading-ok .result ≡ fits (a .delays .now) (a .timers) (a .readings .now) (at .loop .t)
 said c =
-    let a = c .before .before .before .before .before .before .args in
-    let v = getD (a .readings .now) (c .before .before .before .before .before .loop .t) 0 in
-    let most = getD (a .delays .now) (c .before .before .before .before .before .loop .t) 0 in
+    let at = head c in
+    let a = at .before .args in
+    let v = getD (a .readings .now) (at .loop .t) 0 in
+    let most = getD (a .delays .now) (at .loop .t) 0 in
     c .reading-ok .ensures ∙ ap (λ (b : Bool). cond b (leb 1 v && leb v most) (eqb v 0)) (c .before .before .before .has .ensures)
 
 returns : tie.Need-returns Inv-loop μ-loop
 returns c =
-    let l = c .before .before .before .before .before .before .loop in
-    let a = c .before .before .before .before .before .before .before .args in
-    sym (readings-ok-def _ _ _ ∙ every-fails (fits (a .delays .now) (a .timers) (a .readings .now)) 64 (l .t) (omega arith) (sym (said (c .before)) ∙ not-true _ (c .if1 .taken)))
+    let at = head (c .before) in
+    let a = at .before .args in
+    sym (readings-ok-def _ _ _
+    ∙ every-fails (fits (a .delays .now) (a .timers) (a .readings .now)) 64 (at .loop .t) (omega arith) (sym (said (c .before)) ∙ not-true _ (c .if1 .taken)))
 
 add-t : tie.Need-add-t Inv-loop μ-loop
 add-t c = search needs
@@ -69,8 +76,9 @@ loop-less c = search needs
 
 loop-again : tie.Need-loop-again Inv-loop μ-loop
 loop-again c =
-    let l = c .before .before .before .before .before .before .loop in
-    let a = c .before .before .before .before .before .before .before .args in
+    let at = head (c .before) in
+    let l = at .loop in
+    let a = at .before .args in
     (omega arith, every-next (fits (a .delays .now) (a .timers) (a .readings .now)) (l .t) (l .inv .1) (sym (said (c .before)) ∙ not-false _ (c .if1 .left)))
 
 returns-2 : tie.Need-returns-2 Inv-loop μ-loop

@@ -1,0 +1,322 @@
+-- The table run by deadlines: what is left from here, in a block by the deadlines now, gives what all gives from the start. Assumes nothing.
+use mathlib.Core.Path.{_≡_, refl, sym, ap, ap₂, _∙_, subst}
+use mathlib.Core.Bool.{Bool, true, false, not, _&&_, cond}
+use mathlib.Core.List.{List}
+use Prim.Native.Nat.{ℕ, _+_, _-_, _*_, _/_, _^_, _≤_, _<_}
+use native.Mathlib.Nat.{add-zero, le-of-lt, pow-le-pow-right, lt-of-lt-of-le}
+use native.Mathlib.Omega.{arith}
+use lib.Dec.{T, eqb}
+use lib.ListN.{length, getD}
+use Rattle.sets.specs.Sets.{has, meet, minus, setOf, those, members, size, someIn}
+use Rattle.sets.proofs.Tests.{is-true, of-true}
+use Rattle.sets.proofs.Facts.{has-lt}
+use Rattle.sets.proofs.Membership.{has-meet}
+use Rattle.rows.specs.Over.{over}
+use Rattle.meaning.specs.Lists.{rowFrom, refusedIf}
+use Rattle.meaning.specs.Run.{State, reading, dueTimers, ran}
+use Rattle.meaning.specs.Table.{wordIn, kIn, bIn, sourceIn, delayIn, offsetIn, timersIn, cellsIn, cellWord, tableOk}
+use Rattle.meaning.specs.TableRun.{dueNumber, tableStateOk, cellOf, stateAfterCell, isStale, tableStep, tableTicks, tableRun}
+use Rattle.meaning.proofs.ListLaws.{rowFrom-length}
+use Rattle.meaning.proofs.TableLaws.{dueNumber-lt}
+use Rattle.run.specs.Runs.{endedRun}
+use Rattle.run.proofs.DeadlineLaws.{stateFrom, due-deadlines, state-word, state-next, state-start, start-within}
+use Rattle.run.proofs.LoopLaws.{input-below, Reached, reached-start, reached-end, reached-foreign, reached-refused, reached-turn, stopped, stopped-refused, stopped-state, stopped-short, goes-on}
+use Rattle.table.proofs.Sound.{timers-few, timer-lt, delay-pos, delay-lt, cell-lt, cell-inside, next-lt}
+use Rattle.recorder.specs.Timers.{timerDelayIn, timersFrom}
+use Rattle.recorder.proofs.RowStoreLaws.{row-at}
+use Rattle.recorder.proofs.TimerLaws.{delay-at}
+use Rattle.recorder.proofs.TableStateLaws.{admitted}
+use Rattle.recorder.proofs.RestartLaws.{started-there, none-entered, reading-after, reading-left, stale-is, stays}
+
+-- the state after i ticks, in block b
+abbrev pub stateAt : List ℕ → ℕ → List ℕ → ℕ → State
+stateAt w b ends i = stateFrom b (timersIn w b) ends i
+
+-- ---- input i is reached in block b, by the deadlines ends
+
+pub record ReachedBlock (w inputs out₀ : List ℕ) (q₀ : State) (out ends : List ℕ) (b i : ℕ) : Type 0 where
+  pub reached : Reached (kIn w) (tableStep w) inputs out₀ q₀ out 0 i (stateAt w b ends i)
+  pub sound : T (tableOk w)
+  pub long : length ends ≡ 64
+  pub low : b < bIn w
+  pub fits : timersIn w b < 2 ^ 64
+  pub ahead : (t : ℕ) → t < 64 → T (has (timersIn w b) t) → (i < getD ends t 0) × (getD ends t 0 ≤ i + 65535)
+
+-- at the start the deadlines are the readings
+module _ (w inputs out : List ℕ) (h : T (tableOk w)) (q : State) (ok : tableStateOk w q ≡ true) where
+  pub start-low : q .at < bIn w
+  start-low = admitted w h q ok .0
+
+  module _ {b : ℕ} {ends : List ℕ} (be : b ≡ q .at) (ee : ends ≡ q .readings) (long : length ends ≡ 64) where
+    pub start-block : timersIn w b < 2 ^ 64 → 5 * length inputs ≤ length out → ReachedBlock w inputs out (stateAt w b ends 0) out ends b 0
+    start-block fits room =
+        record {
+          reached = reached-start (kIn w) (tableStep w) inputs out (stateAt w b ends 0) room;
+          sound = h;
+          long = long;
+          low = subst (λ (x : ℕ). x < bIn w) (sym be) start-low;
+          fits = fits;
+          ahead = rw (be, ee) ahead;
+        }
+      where
+        ahead : (t : ℕ) → t < 64 → T (has (timersIn w (q .at)) t) → (0 < getD (q .readings) t 0) × (getD (q .readings) t 0 ≤ 0 + 65535)
+        ahead t l m =
+            let r = start-within (timersIn w (q .at)) (delayIn w) q (admitted w h q ok .1) t l m in
+            (omega (arith, r .0), omega (arith, r .1, delay-lt w h t))
+
+    pub start-state : stateAt w b ends 0 ≡ q
+    start-state =
+        ap₂ (λ (x : ℕ) (l : List ℕ). stateAt w x l 0) be ee
+        ∙ state-start (timersIn w (q .at)) (delayIn w) q (admitted w h q ok .1) (sym (ap length ee) ∙ long)
+
+module _ {w inputs out₀ : List ℕ} {q₀ : State} {out ends : List ℕ} {b i : ℕ} (k : ReachedBlock w inputs out₀ q₀ out ends b i) where
+  abbrev now : State
+  now = stateAt w b ends i
+
+  reading-now : (t : ℕ) → t < 64 → reading (now .readings) t ≡ cond (has (timersIn w b) t) (getD ends t 0 - i) 0
+  unfolding reading
+  reading-now t l = row-at 64 (λ u. cond (has (timersIn w b) u) (getD ends u 0 - i) 0) t l
+
+  idle : (t : ℕ) → t < 64 → has (timersIn w b) t ≡ false → reading (now .readings) t ≡ 0
+  idle t l e = reading-now t l ∙ ap (λ (a : Bool). cond a (getD ends t 0 - i) 0) e
+
+  -- ---- the timers that run, as the code has them
+
+  module _ {timers : ℕ} (te : timers ≡ timersIn w b) where
+    -- no deadline of theirs is past
+    pub later : (t : ℕ) → has timers t ≡ true → i ≤ getD ends t 0
+    later t e =
+        let m : T (has (timersIn w b) t) = of-true (ap (λ (x : ℕ). has x t) (sym te) ∙ e) in
+        le-of-lt (k .ahead t (has-lt 64 (timersIn w b) t (k .fits) m) m .0)
+
+    -- what a run that ends now returns
+    ends-now : (e : ℕ) → endedRun ends b timers i 0 e out ≡ record { done = i; state = now; refusal = e; rounds = 0; out = out }
+    ends-now e =
+        ap (λ (x : ℕ). endedRun ends b x i 0 e out) te
+        ∙ ap (λ (q : State). record { done = i; state = q; refusal = e; rounds = 0; out = out })
+        (state-word (timersIn w b) ends i b (λ t l m. omega (arith, k .ahead t l m .1)))
+
+    pub ends-done : length inputs ≤ i → endedRun ends b timers i 0 0 out ≡ ran out₀ (tableTicks w inputs q₀)
+    ends-done l = ends-now 0 ∙ reached-end (kIn w) (tableStep w) inputs out₀ q₀ (k .reached) l
+
+    pub ends-foreign : i < length inputs → (getD inputs i 0 / 2 ^ kIn w ≡ 0 → ⊥) → endedRun ends b timers i 0 13 out ≡ ran out₀ (tableTicks w inputs q₀)
+    ends-foreign l n = ends-now 13 ∙ reached-foreign (kIn w) (tableStep w) inputs out₀ q₀ (k .reached) l n
+
+    -- six timers at most make a small number
+    pub number-small : (d : ℕ) {n : ℕ} → n ≡ dueNumber (members 64 timers) d → n < 64
+    unfolding size
+    number-small d e =
+        lt-of-lt-of-le
+        (subst (λ (x : ℕ). x < 2 ^ size 64 (timersIn w b)) (sym (e ∙ ap (λ (x : ℕ). dueNumber (members 64 x) d) te)) (dueNumber-lt (members 64 (timersIn w b)) d))
+        (pow-le-pow-right (omega arith) {i = size 64 (timersIn w b)} (timers-few w (k .sound) b (k .low)))
+
+  -- ---- the state after a cell, by the deadlines then
+
+  module _ (c : ℕ) (n : cellWord w b c 0 < bIn w) (s : isStale w (stateAfterCell w now c) ≡ false) (ends′ : List ℕ)
+      (e : (t : ℕ) → t < 64 → T (has (timersIn w (cellWord w b c 0)) t)
+      → getD ends′ t 0 ≡ cond (has (cellWord w b c 1) (sourceIn w t)) (i + 1 + delayIn w t) (getD ends t 0)) where
+    abbrev next : ℕ
+    next = cellWord w b c 0
+
+    after : (t : ℕ) → t < 64 → T (has (timersIn w next) t)
+        → (i + 1 < getD ends′ t 0) × (getD ends′ t 0 ≤ i + 1 + 65535)
+        × (getD ends′ t 0 - (i + 1) ≡ cond (has (cellWord w b c 1) (sourceIn w t)) (delayIn w t) (reading (now .readings) t - 1))
+    after t l m =
+        go (has (cellWord w b c 1) (sourceIn w t)) (has (timersIn w b) t) refl (e t l m)
+        (sym (reading-after w (k .sound) now c n t l m)) (reading-left w (k .sound) now c n t l m s)
+      where
+        go : (a d : Bool) → has (timersIn w b) t ≡ d
+            → getD ends′ t 0 ≡ cond a (i + 1 + delayIn w t) (getD ends t 0)
+            → cond a (delayIn w t) (reading (now .readings) t - 1) ≡ reading (stateAfterCell w now c .readings) t
+            → 0 < reading (stateAfterCell w now c .readings) t
+            → (i + 1 < getD ends′ t 0) × (getD ends′ t 0 ≤ i + 1 + 65535) × (getD ends′ t 0 - (i + 1) ≡ cond a (delayIn w t) (reading (now .readings) t - 1))
+        go true d g v r f =
+            (omega (arith, delay-pos w (k .sound) next n t m l), omega (arith, delay-lt w (k .sound) t), omega arith)
+        go false true g v r f =
+            let at : reading (now .readings) t ≡ getD ends t 0 - i = reading-now t l ∙ ap (λ (a : Bool). cond a (getD ends t 0 - i) 0) g in
+            let far = k .ahead t l (of-true g) .1 in
+            (omega arith, omega arith, omega arith)
+        go false false g v r f = absurd (omega (arith, idle t l g))
+
+    next-state : stateAt w next ends′ (i + 1) ≡ stateAfterCell w now c
+    unfolding stateAfterCell
+    next-state = state-next (timersIn w next) ends′ (i + 1) next (cellWord w b c 1) (sourceIn w) (delayIn w) now (λ t l m. after t l m .2)
+
+-- ---- the tick of an input set below 2^k: its due timers choose the cell
+
+-- the code's values: the timers that run, those due and their number, and the place of the cell's words
+pub record Chosen (w inputs out₀ : List ℕ) (q₀ : State) (out ends : List ℕ) (b i timers d n cell : ℕ) : Type 0 where
+  pub here : ReachedBlock w inputs out₀ q₀ out ends b i
+  pub running : timers ≡ timersIn w b
+  pub more : i < length inputs
+  pub below : getD inputs i 0 / 2 ^ kIn w ≡ 0
+  pub due : d ≡ those 64 timers (λ t. eqb (getD ends t 0) (i + 1))
+  pub number : n ≡ dueNumber (members 64 timers) d
+  pub place : cell ≡ offsetIn w b + 3 + 6 * (n * 2 ^ kIn w + getD inputs i 0)
+
+module _ {w inputs out₀ : List ℕ} {q₀ : State} {out ends : List ℕ} {b i timers d n cell : ℕ} (p : Chosen w inputs out₀ q₀ out ends b i timers d n cell) where
+  abbrev k : ReachedBlock w inputs out₀ q₀ out ends b i
+  k = p .here
+
+  abbrev h : T (tableOk w)
+  h = k .sound
+
+  abbrev q : State
+  q = stateAt w b ends i
+
+  abbrev input : ℕ
+  input = getD inputs i 0
+
+  abbrev c : ℕ
+  c = cellOf w q input
+
+  -- what the cell says: the next block, its timers, the modes entered
+  abbrev nextBlock : ℕ
+  nextBlock = cellWord w b c 0
+
+  abbrev nextTimers : ℕ
+  nextTimers = timersIn w nextBlock
+
+  abbrev entered : ℕ
+  entered = cellWord w b c 1
+
+  due-now : d ≡ dueTimers (timersIn w b) (q .readings)
+  due-now =
+      p .due ∙ ap (λ (x : ℕ). those 64 x (λ t. eqb (getD ends t 0) (i + 1))) (p .running)
+      ∙ due-deadlines (timersIn w b) ends i (λ t u m. k .ahead t u m .0)
+
+  place-is : cell ≡ offsetIn w b + 3 + 6 * c
+  unfolding cellOf
+  place-is =
+      p .place
+      ∙ ap (λ (x : ℕ). offsetIn w b + 3 + 6 * (x * 2 ^ kIn w + input))
+      (p .number ∙ ap₂ (λ (x y : ℕ). dueNumber (members 64 x) y) (p .running) due-now)
+
+  there : c < cellsIn w b
+  there = cell-lt w h q input (k .low) (input-below (kIn w) input (p .below))
+
+  pub cell-room : cell + 6 ≤ length w
+  cell-room = omega (arith, place-is, cell-inside w h b (k .low) c there)
+
+  next-is : getD w cell 0 ≡ nextBlock
+  unfolding cellWord wordIn
+  next-is = ap (λ (x : ℕ). getD w x 0) (place-is ∙ sym (add-zero (offsetIn w b + 3 + 6 * c)))
+
+  entered-is : getD w (cell + 1) 0 ≡ entered
+  unfolding cellWord wordIn
+  entered-is = ap (λ (x : ℕ). getD w (x + 1) 0) place-is
+
+  five-is : rowFrom 1 5 (λ j. wordIn w (cell + j)) ≡ rowFrom 1 5 (cellWord w b c)
+  unfolding cellWord
+  five-is = ap (λ (x : ℕ). rowFrom 1 5 (λ j. wordIn w (x + j))) place-is
+
+  low : nextBlock < bIn w
+  low = next-lt w h b (k .low) c there
+
+  pub next-below : getD w cell 0 < bIn w
+  next-below = subst (λ (x : ℕ). x < bIn w) (sym next-is) low
+
+  -- the tick of the definition: refused 15, or done
+  refused : isStale w (stateAfterCell w q c) ≡ true → tableStep w q input .refusal ≡ 15
+  unfolding tableStep refusedIf
+  refused s = rw s refl
+
+  turn : isStale w (stateAfterCell w q c) ≡ false → (ends′ : List ℕ) → length ends′ ≡ 64 → nextTimers < 2 ^ 64
+      → ((t : ℕ) → t < 64 → T (has nextTimers t) → getD ends′ t 0 ≡ cond (has entered (sourceIn w t)) (i + 1 + delayIn w t) (getD ends t 0))
+      → ReachedBlock w inputs out₀ q₀ (over out (5 * i) (rowFrom 1 5 (cellWord w b c))) ends′ nextBlock (i + 1)
+  unfolding tableStep refusedIf
+  turn s ends′ long fits e =
+      record {
+        reached =
+            rw (next-state k c low s ends′ e)
+            (reached-turn (kIn w) (tableStep w) inputs out₀ q₀ (k .reached) (p .more) (p .below) (rw s refl) (rowFrom-length (cellWord w b c) 1 5));
+        sound = h;
+        long = long;
+        low = low;
+        fits = fits;
+        ahead = λ t u m. let r = after k c low s ends′ e t u m in (r .0, r .1);
+      }
+
+  -- the timers of each source, and the sources
+  module _ {from : List ℕ} {timed : ℕ} (fe : from ≡ rowFrom 0 32 (timersFrom w)) (se : timed ≡ setOf 32 (λ m. not (eqb (getD from m 0) 0))) where
+    -- a tick that stays in its block, with no timer due and no source entered, moves no deadline
+    pub turn-stays : getD w cell 0 ≡ b → d ≡ 0 → meet (getD w (cell + 1) 0) timed ≡ 0 → {out′ ends′ : List ℕ} {b′ : ℕ}
+        → out′ ≡ over out (5 * i) (rowFrom 1 5 (λ j. wordIn w (cell + j))) → ends′ ≡ ends → b′ ≡ b
+        → ReachedBlock w inputs out₀ q₀ out′ ends′ b′ (i + 1)
+    turn-stays g dz ez oe ee be =
+        let same : nextBlock ≡ b = sym next-is ∙ g in
+        rw (oe, five-is, ee, be)
+        (subst (λ (x : ℕ). ReachedBlock w inputs out₀ q₀ (over out (5 * i) (rowFrom 1 5 (cellWord w b c))) ends x (i + 1)) same
+        (turn (stays w h q c low (idle k) d due-now (ap (timersIn w) same) dz none) ends (k .long) (subst (λ (x : ℕ). timersIn w x < 2 ^ 64) (sym same) (k .fits))
+        (λ t u m. ap (λ (a : Bool). cond a (i + 1 + delayIn w t) (getD ends t 0)) (sym (none t u m)))))
+      where
+        none : (t : ℕ) → t < 64 → T (has nextTimers t) → has entered (sourceIn w t) ≡ false
+        none t u m =
+            none-entered w h from timed fe se entered t (timer-lt w h nextBlock low t m u) (delay-pos w h nextBlock low t m u) (ap (λ (x : ℕ). meet x timed) (sym entered-is) ∙ ez)
+
+    -- any other tick: the number and the timers of the next block, and those of them that start again
+    module _ {number later again : ℕ} (nu : number ≡ getD w cell 0) (small : later < 2 ^ 64) (le : later ≡ timersIn w number)
+        (ae : again ≡ meet later (setOf 64 (λ t. someIn 32 (meet (getD w (cell + 1) 0) timed) (λ m. has (getD from m 0) t)))) where
+      next-timers : later ≡ nextTimers
+      next-timers = le ∙ ap (timersIn w) (nu ∙ next-is)
+
+      next-fits : nextTimers < 2 ^ 64
+      next-fits = subst (λ (x : ℕ). x < 2 ^ 64) next-timers small
+
+      again-there : (t : ℕ) → t < 64 → T (has nextTimers t) → has again t ≡ has entered (sourceIn w t)
+      again-there t u m =
+          let s = setOf 64 (λ v. someIn 32 (meet (getD w (cell + 1) 0) timed) (λ j. has (getD from j 0) v)) in
+          ap (λ (x : ℕ). has x t) ae ∙ has-meet later s t
+          ∙ ap (λ (a : Bool). a && has s t) (ap (λ (x : ℕ). has x t) next-timers ∙ is-true (has nextTimers t) m)
+          ∙ started-there w h from timed fe se (getD w (cell + 1) 0) t (timer-lt w h nextBlock low t m u) (delay-pos w h nextBlock low t m u)
+          ∙ ap (λ (x : ℕ). has x (sourceIn w t)) entered-is
+
+      stale-now : isStale w (stateAfterCell w q c) ≡ not (eqb (minus (minus later again) (minus timers d)) 0)
+      stale-now =
+          stale-is w h q c low (idle k) d due-now again next-fits again-there
+          ∙ ap₂ (λ (x y : ℕ). not (eqb (minus (minus x again) (minus y d)) 0)) (sym next-timers) (sym (p .running))
+
+      pub ends-stale : not (eqb (minus (minus later again) (minus timers d)) 0) ≡ true → endedRun ends b timers i 0 15 out ≡ ran out₀ (tableTicks w inputs q₀)
+      ends-stale g =
+          ends-now k (p .running) 15
+          ∙ reached-refused (kIn w) (tableStep w) inputs out₀ q₀ (k .reached) (p .more) (p .below) (refused (stale-now ∙ g)) (λ z. omega arith)
+
+      pub turn-moves : not (eqb (minus (minus later again) (minus timers d)) 0) ≡ false
+          → {delays out′ ends′ : List ℕ} → delays ≡ rowFrom 0 64 (timerDelayIn w) → out′ ≡ over out (5 * i) (rowFrom 1 5 (λ j. wordIn w (cell + j)))
+          → ends′ ≡ rowFrom 0 64 (λ t. cond (has again t) (i + 1 + getD delays t 0) (getD ends t 0))
+          → ReachedBlock w inputs out₀ q₀ out′ ends′ number (i + 1)
+      turn-moves g {delays} {out′} {ends′} ye oe ee =
+          rw (oe, five-is, nu, next-is) (turn (stale-now ∙ g) ends′ (ap length ee ∙ rowFrom-length f 0 64) next-fits at)
+        where
+          f : ℕ → ℕ
+          f t = cond (has again t) (i + 1 + getD delays t 0) (getD ends t 0)
+
+          at : (t : ℕ) → t < 64 → T (has nextTimers t) → getD ends′ t 0 ≡ cond (has entered (sourceIn w t)) (i + 1 + delayIn w t) (getD ends t 0)
+          at t u m =
+              ap (λ (r : List ℕ). getD r t 0) ee ∙ row-at 64 f t u
+              ∙ ap₂ (λ (a : Bool) (x : ℕ). cond a (i + 1 + x) (getD ends t 0)) (again-there t u m)
+              (ap (λ (r : List ℕ). getD r t 0) ye ∙ delay-at w t u (timer-lt w h nextBlock low t m u))
+
+-- ---- the whole run: 15, 14, 12, then tick by tick
+
+module _ (w inputs out : List ℕ) (q : State) where
+  pub run-bad-table : tableOk w ≡ false → stopped q out 15 ≡ tableRun w q inputs out
+  unfolding tableRun refusedIf
+  run-bad-table e = stopped-refused (kIn w) (tableStep w) _ (tableStateOk w q) q inputs out (rw e refl) (λ z. omega arith)
+
+  module _ (z : tableOk w ≡ true) where
+    no-refusal : refusedIf (not (tableOk w)) 15 ≡ 0
+    unfolding refusedIf
+    no-refusal = rw z refl
+
+    pub run-bad-state : tableStateOk w q ≡ false → stopped q out 14 ≡ tableRun w q inputs out
+    unfolding tableRun
+    run-bad-state e = stopped-state (kIn w) (tableStep w) _ _ q inputs out no-refusal e
+
+    pub run-short : tableStateOk w q ≡ true → length out / 5 < length inputs → stopped q out 12 ≡ tableRun w q inputs out
+    unfolding tableRun
+    run-short e h = stopped-short (kIn w) (tableStep w) _ _ q inputs out no-refusal e h
+
+    pub run-ticks : tableStateOk w q ≡ true → 5 * length inputs ≤ length out → ran out (tableTicks w inputs q) ≡ tableRun w q inputs out
+    unfolding tableRun
+    run-ticks e h = goes-on (kIn w) (tableStep w) _ _ q inputs out no-refusal e h
