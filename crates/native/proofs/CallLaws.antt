@@ -1,21 +1,27 @@
 -- What each call answers and leaves: too few words lent, and otherwise. Assumes nothing.
-use mathlib.Core.Path.{_≡_, ap, _∙_}
+use mathlib.Core.Path.{_≡_, refl, ap, _∙_}
 use mathlib.Core.Logic.{_⊎_, inl, inr}
-use mathlib.Core.Bool.{true, _||_, or-true}
-use mathlib.Core.List.{List, [], _∷_}
+use mathlib.Core.Bool.{true, or-true}
+use mathlib.Core.List.{List, [], _∷_, _++_}
 use Prim.Native.Nat.{ℕ, _+_, _*_, _/_, _%_, _^_, _≤_, _<_}
+use native.Mathlib.Nat.{zero-add}
 use native.Mathlib.Omega.{arith}
 use lib.Dec.{ltb}
-use lib.ListN.{length, getD, take, drop}
-use lib.Seq.{sets}
+use lib.ListN.{length, drop}
+use lib.Seq.{sets, sets-eq}
 use borrow.Author.Tests.{lt-ltb, le-ltb}
 use Rattle.meaning.specs.Lists.{overwritten}
 use Rattle.meaning.specs.Run.{State, Run}
 use Rattle.meaning.specs.SheetRun.{sheetRun}
 use Rattle.meaning.specs.TableRun.{tableRun}
 use Rattle.meaning.specs.Compile.{Compiled, compile}
-use Rattle.native.specs.Calls.{compileCall, stateIn, runCall, sheetCall, tableCall}
-use Rattle.native.proofs.StateWords.{sets-front}
+use Rattle.run.specs.States.{wordsOf, stateIn}
+use Rattle.native.specs.Calls.{compileCall, runCall, sheetCall, tableCall}
+
+-- a row of stores at the front
+sets-front : (vs l : List ℕ) → length vs ≤ length l → sets l 0 vs ≡ overwritten vs l
+unfolding overwritten
+sets-front vs l h = sets-eq vs l 0 (omega arith) ∙ ap (λ (n : ℕ). vs ++ drop n l) (zero-add (length vs))
 
 -- ---- compile
 
@@ -33,56 +39,33 @@ module _ (sheet table work info : List ℕ) where
 
 -- ---- runs
 
--- fewer words lent than asked for, in info or in the state
-too-few : (info state n : ℕ) → (info < n) ⊎ (ltb state 65 ≡ true) → (ltb info n || ltb state 65) ≡ true
-too-few info state n (inl h) = rw (lt-ltb info n h)
-too-few info state n (inr h) = rw (h, or-true)
-
--- the state as it is passed on
-module _ (words readings : List ℕ) (e : readings ≡ take 64 (drop 1 words)) where
-  state-in : record { at = getD words 0 0; readings = readings } ≡ stateIn words
-  unfolding stateIn
-  state-in = rw e
-
--- a run that is answered, its state and its counts put into lent words
-module _ (state info : List ℕ) (o : Run) (counts : List ℕ) (answer : ℕ) (words : List ℕ) where
-  run-answered : length counts ≤ length info → answer ≡ o .refusal → words ≡ overwritten (o .state .at ∷ o .state .readings) state
-      → record { answer = answer; state = words; out = o .out; info = sets info 0 counts } ≡ runCall o counts state info
+module _ (o : Run) (counts state out info : List ℕ) where
+  -- fewer words lent than asked for, in info or in the state
+  pub run-nothing : (length info < length counts) ⊎ (ltb (length state) 65 ≡ true)
+      → record { answer = 4294967295; state = state; out = out; info = info } ≡ runCall o counts state out info
   unfolding runCall
-  run-answered h a w = rw (a, w, sets-front counts info h)
+  run-nothing (inl h) = rw (lt-ltb (length info) (length counts) h)
+  run-nothing (inr h) = rw (h, or-true)
 
-module _ (sheet state inputs out info : List ℕ) where
-  pub sheet-nothing : (length info < 3) ⊎ (ltb (length state) 65 ≡ true)
-      → record { answer = 4294967295; state = state; out = out; info = info } ≡ sheetCall sheet state inputs out info
-  unfolding sheetCall
-  sheet-nothing h = rw (too-few (length info) (length state) 3 h)
+  -- the state and the counts put into lent words
+  pub run-answered : length counts ≤ length info → 65 ≤ length state → (answer : ℕ) (words : List ℕ)
+      → answer ≡ o .refusal → words ≡ overwritten (wordsOf (o .state)) state
+      → record { answer = answer; state = words; out = o .out; info = sets info 0 counts } ≡ runCall o counts state out info
+  unfolding runCall
+  run-answered h k answer words a w = rw (le-ltb (length info) (length counts) h, le-ltb (length state) 65 k, a, w, sets-front counts info h)
 
-  pub sheet-answered : 3 ≤ length info → 65 ≤ length state → (o : Run) (answer whole low : ℕ) (readings words : List ℕ)
-      → readings ≡ take 64 (drop 1 state) → o ≡ sheetRun sheet (record { at = getD state 0 0; readings = readings }) inputs out
-      → answer ≡ o .refusal → o .rounds ≡ whole * 2 ^ 32 + low → low < 2 ^ 32
-      → words ≡ overwritten (o .state .at ∷ o .state .readings) state
-      → record { answer = answer; state = words; out = o .out; info = sets info 0 (o .done ∷ whole ∷ low ∷ []) }
-      ≡ sheetCall sheet state inputs out info
+-- o: what was run from the state q that the words hold
+module _ (sheet state inputs out info : List ℕ) (o : Run) (q : State) (qe : q ≡ stateIn state) (e : o ≡ sheetRun sheet q inputs out) where
+  pub sheet-call : (whole low : ℕ) → o .rounds ≡ whole * 2 ^ 32 + low → low < 2 ^ 32
+      → runCall o (o .done ∷ whole ∷ low ∷ []) state out info ≡ sheetCall sheet state inputs out info
   unfolding sheetCall
-  sheet-answered h k o answer whole low readings words re e a n l w =
+  sheet-call whole low n l =
       let p : whole ≡ o .rounds / 2 ^ 32 = omega arith in
-      let q : low ≡ o .rounds % 2 ^ 32 = omega arith in
-      let r = run-answered state info o (o .done ∷ o .rounds / 2 ^ 32 ∷ o .rounds % 2 ^ 32 ∷ []) answer words h a w in
-      let f : o ≡ sheetRun sheet (stateIn state) inputs out = e ∙ ap (λ (q : State). sheetRun sheet q inputs out) (state-in state readings re) in
-      rw (le-ltb (length info) 3 h, le-ltb (length state) 65 k, ← f, p, q) r
+      let r : low ≡ o .rounds % 2 ^ 32 = omega arith in
+      let f : o ≡ sheetRun sheet (stateIn state) inputs out = e ∙ ap (λ (x : State). sheetRun sheet x inputs out) qe in
+      rw (p, r, ← f) refl
 
-module _ (table state inputs out info : List ℕ) where
-  pub table-nothing : (length info < 1) ⊎ (ltb (length state) 65 ≡ true)
-      → record { answer = 4294967295; state = state; out = out; info = info } ≡ tableCall table state inputs out info
+module _ (table state inputs out info : List ℕ) (o : Run) (q : State) (qe : q ≡ stateIn state) (e : o ≡ tableRun table q inputs out) where
+  pub table-call : runCall o (o .done ∷ []) state out info ≡ tableCall table state inputs out info
   unfolding tableCall
-  table-nothing h = rw (too-few (length info) (length state) 1 h)
-
-  pub table-answered : 1 ≤ length info → 65 ≤ length state → (o : Run) (answer : ℕ) (readings words : List ℕ)
-      → readings ≡ take 64 (drop 1 state) → o ≡ tableRun table (record { at = getD state 0 0; readings = readings }) inputs out
-      → answer ≡ o .refusal → words ≡ overwritten (o .state .at ∷ o .state .readings) state
-      → record { answer = answer; state = words; out = o .out; info = sets info 0 (o .done ∷ []) } ≡ tableCall table state inputs out info
-  unfolding tableCall
-  table-answered h k o answer readings words re e a w =
-      let r = run-answered state info o (o .done ∷ []) answer words h a w in
-      let f : o ≡ tableRun table (stateIn state) inputs out = e ∙ ap (λ (q : State). tableRun table q inputs out) (state-in state readings re) in
-      rw (le-ltb (length info) 1 h, le-ltb (length state) 65 k, ← f) r
+  table-call = let f : o ≡ tableRun table (stateIn state) inputs out = e ∙ ap (λ (x : State). tableRun table x inputs out) qe in rw (← f) refl

@@ -1,2 +1,1 @@
-pub mod StateWords
 pub mod CallLaws

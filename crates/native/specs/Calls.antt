@@ -3,12 +3,13 @@ use mathlib.Core.Bool.{_||_, cond}
 use mathlib.Core.List.{List, [], _∷_}
 use Prim.Native.Nat.{ℕ, _/_, _%_, _^_}
 use lib.Dec.{ltb}
-use lib.ListN.{length, getD, take, drop}
+use lib.ListN.{length}
 use Rattle.meaning.specs.Lists.{overwritten}
-use Rattle.meaning.specs.Run.{State, Run}
+use Rattle.meaning.specs.Run.{Run}
 use Rattle.meaning.specs.SheetRun.{sheetRun}
 use Rattle.meaning.specs.TableRun.{tableRun}
 use Rattle.meaning.specs.Compile.{compile}
+use Rattle.run.specs.States.{wordsOf, stateIn}
 
 pub record CompileCall : Type 0 where
   pub answer : ℕ
@@ -24,35 +25,27 @@ compileCall sheet table work info =
     record { answer = o .refusal; table = o .table; work = o .work; info = overwritten (o .f ∷ o .tableLength ∷ []) info } in
     cond (ltb (length info) 2) nothing done
 
--- the state that 65 words hold
-unfoldable pub stateIn : List ℕ → State
-stateIn words = record { at = getD words 0 0; readings = take 64 (drop 1 words) }
-
 pub record RunCall : Type 0 where
   pub answer : ℕ
   pub state : List ℕ
   pub out : List ℕ
   pub info : List ℕ
 
--- a call that ran and puts these counts into info
-unfoldable pub runCall : Run → List ℕ → List ℕ → List ℕ → RunCall
-runCall o counts state info =
-    record {
-      answer = o .refusal;
-      state = overwritten (o .state .at ∷ o .state .readings) state;
-      out = o .out;
-      info = overwritten counts info;
-    }
+-- a call that ran, puts its state into 65 words and its counts into info
+unfoldable pub runCall : Run → List ℕ → List ℕ → List ℕ → List ℕ → RunCall
+runCall o counts state out info =
+    let nothing : RunCall = record { answer = 4294967295; state = state; out = out; info = info } in
+    let done : RunCall =
+    record { answer = o .refusal; state = overwritten (wordsOf (o .state)) state; out = o .out; info = overwritten counts info } in
+    cond (ltb (length info) (length counts) || ltb (length state) 65) nothing done
 
+-- the counts of a sheet run: ticks done, the total of rounds as whole times 2^32 and the rest; of a table run: ticks done
 unfoldable pub sheetCall : List ℕ → List ℕ → List ℕ → List ℕ → List ℕ → RunCall
 sheetCall sheet state inputs out info =
     let o = sheetRun sheet (stateIn state) inputs out in
-    let nothing : RunCall = record { answer = 4294967295; state = state; out = out; info = info } in
-    let counts = o .done ∷ o .rounds / 2 ^ 32 ∷ o .rounds % 2 ^ 32 ∷ [] in
-    cond (ltb (length info) 3 || ltb (length state) 65) nothing (runCall o counts state info)
+    runCall o (o .done ∷ o .rounds / 2 ^ 32 ∷ o .rounds % 2 ^ 32 ∷ []) state out info
 
 unfoldable pub tableCall : List ℕ → List ℕ → List ℕ → List ℕ → List ℕ → RunCall
 tableCall table state inputs out info =
     let o = tableRun table (stateIn state) inputs out in
-    let nothing : RunCall = record { answer = 4294967295; state = state; out = out; info = info } in
-    cond (ltb (length info) 1 || ltb (length state) 65) nothing (runCall o (o .done ∷ []) state info)
+    runCall o (o .done ∷ []) state out info

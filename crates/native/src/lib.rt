@@ -3,15 +3,13 @@
 // With fewer words in `info` or in the state than asked for, a call does nothing and answers 4294967295.
 ghost use mathlib.Core.Path.{_≡_};
 ghost use mathlib.Core.Bool.{cond};
-ghost use mathlib.Core.List.{_∷_};
-ghost use Prim.Native.Nat.{_≤_};
-ghost use lib.ListN.{length, take, drop};
-ghost use Rattle.meaning.specs.Lists.{overwritten};
 ghost use Rattle.meaning.specs.Check.{sheetRefusal};
 ghost use Rattle.meaning.specs.Table.{tableOk};
 ghost use Rattle.native.specs.Calls.{compileCall, sheetCall, tableCall};
 use meaning::refusal::number;
-use run::state::State;
+use run::state::STATE_WORDS;
+use run::state::from_words;
+use run::state::put_state;
 
 // What is answered where too few words are lent.
 const NOTHING_DONE: u32 = 4294967295;
@@ -31,7 +29,8 @@ pub extern "C" fn modechart_compile(
     work: &mut [u32],
     info: &mut [u64],
 ) -> u32
-    ensures { λ r. ⌜ record { answer = r; table = now (table .exit); work = now (work .exit); info = now (info .exit) } ≡ compileCall (now (sheet .entry)) (now (table .entry)) (now (work .entry)) (now (info .entry)) ⌝ }
+    ensures { λ r. ⌜ record { answer = r; table = now (table .exit); work = now (work .exit); info = now (info .exit) }
+        ≡ compileCall (now (sheet .entry)) (now (table .entry)) (now (work .entry)) (now (info .entry)) ⌝ }
 {
     if info.len() < 2 {
         return NOTHING_DONE;
@@ -53,34 +52,6 @@ pub extern "C" fn modechart_check_table(table: &[u32]) -> u32
     15
 }
 
-// The readings that 65 words hold after the mode set or block.
-fn readings_in(state: &[u32]) -> [u32; 64]
-    requires { ⌜ 65 ≤ length (now state) ⌝ }
-    ensures { λ r. ⌜ r ≡ take 64 (drop 1 (now (state .entry))) ⌝ }
-{
-    let mut r = [0u32; 64];
-    let mut t = 0;
-    while t < 64 {
-        r[t] = state[1 + t];
-        t += 1;
-    }
-    r
-}
-
-// A state into 65 lent words.
-fn put_state(words: &mut [u32], state: State)
-    requires { ⌜ 65 ≤ length (now words) ⌝ }
-    ensures { λ _. ⌜ now (words .exit) ≡ overwritten (state .at ∷ state .readings) (now (words .entry)) ⌝ }
-{
-    let readings = state.readings;
-    words[0] = state.at;
-    let mut t = 0;
-    while t < 64 {
-        words[1 + t] = readings[t];
-        t += 1;
-    }
-}
-
 // info: ticks done, the total of rounds (whole times 2^32, and the rest).
 #[no_mangle]
 pub extern "C" fn modechart_sheet_run(
@@ -90,17 +61,13 @@ pub extern "C" fn modechart_sheet_run(
     out: &mut [u32],
     info: &mut [u64],
 ) -> u32
-    ensures { λ r. ⌜ record { answer = r; state = now (state .exit); out = now (out .exit); info = now (info .exit) } ≡ sheetCall (now (sheet .entry)) (now (state .entry)) (now (inputs .entry)) (now (out .entry)) (now (info .entry)) ⌝ }
+    ensures { λ r. ⌜ record { answer = r; state = now (state .exit); out = now (out .exit); info = now (info .exit) }
+        ≡ sheetCall (now (sheet .entry)) (now (state .entry)) (now (inputs .entry)) (now (out .entry)) (now (info .entry)) ⌝ }
 {
-    if info.len() < 3 || state.len() < 65 {
+    if info.len() < 3 || state.len() < STATE_WORDS {
         return NOTHING_DONE;
     }
-    let readings = readings_in(state);
-    let before = State {
-        at: state[0],
-        readings,
-    };
-    let ran = simulator::sheet_run::run(sheet, before, inputs, out);
+    let ran = simulator::sheet_run::run(sheet, from_words(state), inputs, out);
     let why = ran.refusal;
     info[0] = ran.done.0 as u64;
     info[1] = ran.rounds.0;
@@ -118,17 +85,13 @@ pub extern "C" fn modechart_table_run(
     out: &mut [u32],
     info: &mut [u64],
 ) -> u32
-    ensures { λ r. ⌜ record { answer = r; state = now (state .exit); out = now (out .exit); info = now (info .exit) } ≡ tableCall (now (table .entry)) (now (state .entry)) (now (inputs .entry)) (now (out .entry)) (now (info .entry)) ⌝ }
+    ensures { λ r. ⌜ record { answer = r; state = now (state .exit); out = now (out .exit); info = now (info .exit) }
+        ≡ tableCall (now (table .entry)) (now (state .entry)) (now (inputs .entry)) (now (out .entry)) (now (info .entry)) ⌝ }
 {
-    if info.len() < 1 || state.len() < 65 {
+    if info.len() < 1 || state.len() < STATE_WORDS {
         return NOTHING_DONE;
     }
-    let readings = readings_in(state);
-    let before = State {
-        at: state[0],
-        readings,
-    };
-    let ran = recorder::table_run::run(table, before, inputs, out);
+    let ran = recorder::table_run::run(table, from_words(state), inputs, out);
     let why = ran.refusal;
     info[0] = ran.done.0 as u64;
     put_state(state, ran.state);
