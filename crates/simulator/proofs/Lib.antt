@@ -1,3 +1,3 @@
 pub mod DelayLaws
-pub mod StateLaws
-pub mod RunLaws
+pub mod SheetStateLaws
+pub mod SheetRunLaws

@@ -5,39 +5,35 @@ ghost use mathlib.Core.List.{List};
 ghost use Prim.Native.Nat.{ℕ, _+_, _*_, _^_, _≤_, _<_};
 ghost use lib.ListN.{length, getD};
 ghost use Rattle.sets.specs.Sets.{has};
-ghost use Rattle.rows.specs.Over.{fiveOf};
 ghost use Rattle.meaning.specs.Lists.{rowFrom};
-ghost use Rattle.meaning.specs.Check.{sheetRefusal};
 ghost use Rattle.meaning.specs.Refusal.{numberOf};
-ghost use Rattle.meaning.specs.Tick.{fiveWords};
 ghost use Rattle.meaning.specs.Run.{ran};
 ghost use Rattle.meaning.specs.Sheet.{tOf};
 ghost use Rattle.meaning.specs.SheetRun.{stateOk, sheetTicks, sheetRun};
-ghost use Rattle.reaction.specs.Plan.{Planned};
-ghost use Rattle.reaction.specs.Rounds.{setsOf};
-ghost use Rattle.run.specs.Runs.{totalOf, stateOf, endedRun};
-ghost use Rattle.simulator.specs.Runs.{Delays, ranOf};
+ghost use Rattle.reaction.specs.Plan.{Planned, timerDelay};
+ghost use Rattle.run.specs.States.{stateOf};
+ghost use Rattle.run.specs.Counts.{totalOf};
+ghost use Rattle.run.specs.Runs.{endedRun};
+ghost use Rattle.simulator.specs.Runs.{ranOf};
 use super::state::state_ok;
 use meaning::refusal::Refusal;
 use meaning::refusal::number;
 use planner::planned;
-use reaction::plan::DELAYS;
 use reaction::plan::Plan;
 use reaction::plan::TIMERS;
 use reaction::plan::from_set;
-use reaction::tick::Sets;
+use reaction::plan::timer_delays;
+use reaction::tick::five_words;
 use reaction::tick::tick;
-use rows::Five;
 use rows::put_five;
 use run::counts::Rounds;
 use run::counts::Ticks;
 use run::counts::with_rounds;
 use run::deadlines::deadlines;
 use run::deadlines::due;
-use run::deadlines::readings_at;
 use run::deadlines::restart;
 use run::state::State;
-use sets::transitions;
+use run::state::state_at;
 use sheet::words::event_count;
 
 // What a sheet run returns: ticks done, their total of rounds, the state after them, the refusal.
@@ -48,44 +44,21 @@ pub struct Ran {
     pub refusal: Refusal,
 }
 
-// The five words of a tick.
-fn five_words(z: Sets) -> Five
-    ensures { λ r. ⌜ fiveOf r ≡ fiveWords (setsOf z) ⌝ }
-{
-    Five {
-        entered: z.entered,
-        exited: z.exited,
-        active: z.active,
-        low: transitions::low(z.taken),
-        high: transitions::high(z.taken),
-    }
-}
-
 // A run that ends after some ticks, in the mode set x with these timers running; no deadline of theirs is past.
 fn ended(ends: &[u64; 64], x: u32, timers: u64, done: usize, total: Rounds, why: Refusal) -> Ran
     requires { ⌜ ((t : ℕ) → has timers t ≡ true → done ≤ getD (now ends) t 0) ⌝ }
-    ensures { λ r. ⌜ ((out : List ℕ) → ranOf r out ≡ endedRun (now (ends .entry)) x timers done (totalOf total) (numberOf why) out) × (r .rounds .1 ≡ total .1) ⌝ }
+    ensures { λ r. ⌜
+        ((out : List ℕ) →
+        ranOf r out ≡ endedRun (now (ends .entry)) x timers done (totalOf total) (numberOf why) out)
+        × (r .rounds .1 ≡ total .1) ⌝ }
 {
-    let readings = readings_at(ends, timers, done as u64);
+    let state = state_at(ends, x, timers, done as u64);
     Ran {
         done: Ticks(done),
         rounds: total,
-        state: State { at: x, readings },
+        state,
         refusal: why,
     }
-}
-
-// The delays of the plan's timers, 0 for other transitions.
-fn delays_of(plan: &Plan) -> [u64; 64]
-    ensures { λ r. ⌜ r ≡ rowFrom 0 64 (λ t. getD (now (plan .entry)) (384 + t) 0) ⌝ }
-{
-    let mut r = [0u64; 64];
-    let mut t = 0;
-    while t < 64 {
-        r[t] = plan[DELAYS + t];
-        t += 1;
-    }
-    r
 }
 
 // Tick by tick: 13, then 8 or 9.
@@ -97,8 +70,15 @@ fn ticks(
     inputs: &[u32],
     out: &mut [u32],
 ) -> Ran
-    requires { ⌜ (sheetRefusal (now sheet) ≡ 0) × Planned (now sheet) (now plan) × Delays (now sheet) (now delays) × (stateOk (now sheet) (stateOf start) ≡ true) × (5 * length (now inputs) ≤ length (now out)) ⌝ }
-    ensures { λ r. ⌜ (ranOf r (now (out .exit)) ≡ ran (now (out .entry)) (sheetTicks (now (sheet .entry)) (now (inputs .entry)) (stateOf start))) × (r .rounds .1 < 2 ^ 32) ⌝ }
+    requires { ⌜
+        Planned (now sheet) (now plan)
+        × (now delays ≡ rowFrom 0 64 (timerDelay (now sheet)))
+        × (stateOk (now sheet) (stateOf start) ≡ true)
+        × (5 * length (now inputs) ≤ length (now out)) ⌝ }
+    ensures { λ r. ⌜
+        (ranOf r (now (out .exit))
+        ≡ ran (now (out .entry)) (sheetTicks (now (sheet .entry)) (now (inputs .entry)) (stateOf start)))
+        × (r .rounds .1 < 2 ^ 32) ⌝ }
 {
     let timers = plan[TIMERS];
     let k = event_count(sheet);
@@ -121,12 +101,8 @@ fn ticks(
             return ended(&ends, x, live & timers, i, total, why);
         }
         let z = o.sets;
-        restart(
-            delays,
-            &mut ends,
-            from_set(sheet, plan, z.entered) & z.live & timers,
-            now,
-        );
+        let again = from_set(sheet, plan, z.entered) & (z.live & timers);
+        restart(delays, &mut ends, again, now);
         put_five(out, 5 * i, five_words(z));
         total = with_rounds(total, o.rounds);
         x = z.modes;
@@ -138,7 +114,10 @@ fn ticks(
 
 // A run that stops before any tick.
 fn stops(state: State, why: Refusal) -> Ran
-    ensures { λ r. ⌜ ((out : List ℕ) → ranOf r out ≡ record { done = 0; state = stateOf state; refusal = numberOf why; rounds = 0; out = out }) × (r .rounds .1 ≡ 0) ⌝ }
+    ensures { λ r. ⌜
+        ((out : List ℕ) →
+        ranOf r out ≡ record { done = 0; state = stateOf state; refusal = numberOf why; rounds = 0; out = out })
+        × (r .rounds .1 ≡ 0) ⌝ }
 {
     Ran {
         done: Ticks(0),
@@ -151,16 +130,19 @@ fn stops(state: State, why: Refusal) -> Ran
 // The sheet run, on any sheet words, state, input sets and output words: 1 to 6, 14, 12, then tick by tick 13, then 8 or 9. A
 // refused tick leaves the state of the tick before; only the five words of each done tick are written, at 5p.
 pub fn run(sheet: &[u32], state: State, inputs: &[u32], out: &mut [u32]) -> Ran
-    ensures { λ r. ⌜ (ranOf r (now (out .exit)) ≡ sheetRun (now (sheet .entry)) (stateOf state) (now (inputs .entry)) (now (out .entry))) × (totalOf (r .rounds) ≤ tOf (now (sheet .entry)) * r .done .0) × (r .rounds .1 < 2 ^ 32) ⌝ }
+    ensures { λ r. ⌜
+        (ranOf r (now (out .exit))
+        ≡ sheetRun (now (sheet .entry)) (stateOf state) (now (inputs .entry)) (now (out .entry)))
+        × (totalOf (r .rounds) ≤ tOf (now (sheet .entry)) * r .done .0)
+        × (r .rounds .1 < 2 ^ 32) ⌝ }
 {
     let why = sheet::check(sheet);
     if number(why) != 0 {
         return stops(state, why);
     }
     let plan = planned(sheet);
-    let delays = delays_of(&plan);
-    let readings = state.readings;
-    if !state_ok(sheet, &plan, &delays, state.at, &readings) {
+    let delays = timer_delays(sheet, &plan);
+    if !state_ok(sheet, &plan, &delays, state) {
         return stops(state, Refusal::State);
     }
     if out.len() / 5 < inputs.len() {

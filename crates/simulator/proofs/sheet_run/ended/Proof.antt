@@ -4,11 +4,11 @@ use borrow.Author.Needs.{needs}
 use Rattle.simulator.proofs.sheet_run.ended.Statement.{statement}
 use Rattle.simulator.proofs.sheet_run.ended.Tie as tie
 
-readings-at-requires : tie.Need-readings-at-requires
-readings-at-requires c κs = search needs
+state-at-requires : tie.Need-state-at-requires
+state-at-requires c κs = search needs
 
 returns : tie.Need-returns
-returns c = (λ out. rw (c .readings-at .ensures), refl)
+returns c = (λ out. rw (c .state-at .ensures), refl)
 
 pub ended-spec : {M : Type 1} → statement M
-ended-spec = tie.close (tie.spec readings-at-requires returns)
+ended-spec = tie.close (tie.spec state-at-requires returns)

@@ -1,43 +1,47 @@
 -- `simulator::sheet_run::run` meets its contract: each way out is a case of `sheetRun`, in its order. Assumes nothing.
 use mathlib.Core.Path.{_≡_, sym, _∙_}
+use mathlib.Core.Bool.{true}
 use native.Mathlib.Omega.{arith}
 use borrow.Author.Needs.{needs}
-use borrow.Author.Tests.{not-true, not-false}
-use mathlib.Core.Bool.{true}
+use Rattle.sets.proofs.Loops.{passed, failed}
+use Rattle.meaning.specs.Sheet.{kOf}
 use Rattle.meaning.specs.Check.{sheetRefusal}
-use Rattle.meaning.specs.SheetRun.{stateOk}
-use Rattle.run.specs.Runs.{stateOf}
-use Rattle.simulator.specs.Runs.{Delays}
-use Rattle.simulator.proofs.DelayLaws.{plan-delays}
-use Rattle.simulator.proofs.RunLaws.{run-bad-sheet, run-bad-state, run-short, run-ticks, answered}
+use Rattle.meaning.specs.SheetRun.{stateOk, sheetStep, sheetRun}
+use Rattle.run.specs.States.{stateOf}
+use Rattle.run.proofs.LoopLaws.{stopped-refused, stopped-state, stopped-short, goes-on}
+use Rattle.simulator.proofs.SheetRunLaws.{answered}
 use Rattle.simulator.proofs.sheet_run.run.Statement.{statement}
 use Rattle.simulator.proofs.sheet_run.run.Tie as tie
 
--- the function's entry, from where the sheet is checked
+-- ---- the places that the needs go back to, each from the one after it: the entry, the sheet checked, planned, the state checked, all
+-- checked
+
 abbrev entry : tie.After-check → tie.Start
 entry c = c .before .before .before .before
+
+abbrev checked : tie.After-timer-delays → tie.Else1
+checked c = c .before .before .before
+
+abbrev prepared : tie.After-state-ok → tie.After-timer-delays
+prepared c = c .before .before .before
+
+abbrev ready : tie.After-ticks → tie.Else3
+ready c = c .before .before .before .before
+
+abbrev start : tie.After-timer-delays → tie.Start
+start c = entry (checked c .before .before)
+
+-- ---- what holds there
 
 -- the sheet is past 1 to 6
 past : (c : tie.Else1) → sheetRefusal (entry (c .before .before) .args .sheet .now) ≡ 0
 past c = sym (c .before .before .check .ensures) ∙ sym (c .before .number .ensures) ∙ c .if1 .left
 
--- where the delays were copied, and where the sheet was past 1 to 6, from where the state is tested
-abbrev delayed : tie.After-readings2 → tie.After-delays-of
-delayed c = c .before .before .before .before
-
-abbrev on : tie.After-readings2 → tie.Else1
-on c = delayed c .before .before .before
-
--- the words copied are the delays of the timers
-delays-right : (c : tie.After-readings2) → Delays (entry (on c .before .before) .args .sheet .now) (delayed c .delays-of .result)
-delays-right c =
-    let planned = delayed c .before .before .planned in
-    plan-delays (planned .result) _ (delayed c .delays-of .result) (planned .ensures) (delayed c .delays-of .ensures)
-
 -- the state is sound
-admitted : (c : tie.Else2)
-    → let a = entry (on (c .before .before) .before .before) .args in stateOk (a .sheet .now) (stateOf (a .state)) ≡ true
-admitted c = sym (c .before .state-ok .ensures) ∙ not-false _ (c .if2 .left)
+admitted : (c : tie.Else2) → let a = start (prepared (c .before)) .args in stateOk (a .sheet .now) (stateOf (a .state)) ≡ true
+admitted c = passed (c .before .state-ok .ensures) (c .if2 .left)
+
+-- ---- the needs
 
 check-requires : tie.Need-check-requires
 check-requires c κs = search needs
@@ -49,63 +53,81 @@ stops-requires : tie.Need-stops-requires
 stops-requires c κs = search needs
 
 returns : tie.Need-returns
+unfolding sheetRun
 returns c =
-    let check = c .before .before .before in
+    let refused = c .before in
+    let check = refused .before .before in
     let a = entry check .args in
-    answered (a .sheet .now) (a .inputs .now) (a .out .now) (stateOf (a .state)) _
+    let w = a .sheet .now in
+    let q = stateOf (a .state) in
+    answered w (a .inputs .now) (a .out .now) q
     (c .stops .ensures .0 (a .out .now)
-    ∙ run-bad-sheet (a .sheet .now) (a .inputs .now) (a .out .now) (stateOf (a .state)) _ (check .check .ensures)
-    (λ e. c .before .if1 .taken (c .before .before .number .ensures ∙ e))) (omega (arith, c .stops .ensures .1))
+    ∙ stopped-refused (kOf w) (sheetStep w) (sheetRefusal w) (stateOk w q) q (a .inputs .now) (a .out .now) (check .check .ensures)
+    (λ e. refused .if1 .taken (refused .before .number .ensures ∙ e))) (omega (arith, c .stops .ensures .1))
 
 planned-requires : tie.Need-planned-requires
 planned-requires c κs = past c
 
-delays-of-requires : tie.Need-delays-of-requires
-delays-of-requires c κs = search needs
+timer-delays-requires : tie.Need-timer-delays-requires
+timer-delays-requires c κs = search needs
 
 state-ok-requires : tie.Need-state-ok-requires
-state-ok-requires c κs = (past (on c), delayed c .before .before .planned .ensures, delays-right c)
+state-ok-requires c κs = let delays = c .before .before in (delays .before .before .planned .ensures, delays .timer-delays .ensures)
 
 stops-requires-2 : tie.Need-stops-requires-2
 stops-requires-2 c κs = search needs
 
 returns-2 : tie.Need-returns-2
+unfolding sheetRun
 returns-2 c =
-    let ok = c .before .before in
-    let a = entry (on (ok .before) .before .before) .args in
-    answered (a .sheet .now) (a .inputs .now) (a .out .now) (stateOf (a .state)) _
+    let state = c .before .before in
+    let delays = prepared state in
+    let a = start delays .args in
+    let w = a .sheet .now in
+    let q = stateOf (a .state) in
+    answered w (a .inputs .now) (a .out .now) q
     (c .stops2 .ensures .0 (a .out .now)
-    ∙ run-bad-state (a .sheet .now) (a .inputs .now) (a .out .now) (stateOf (a .state)) (past (on (ok .before))) (sym (ok .state-ok .ensures) ∙ not-true _ (c .before .if2 .taken))) (omega (arith, c .stops2 .ensures .1))
+    ∙ stopped-state (kOf w) (sheetStep w) (sheetRefusal w) (stateOk w q) q (a .inputs .now) (a .out .now) (past (checked delays))
+    (failed (state .state-ok .ensures) (c .before .if2 .taken))) (omega (arith, c .stops2 .ensures .1))
 
 stops-requires-3 : tie.Need-stops-requires-3
 stops-requires-3 c κs = search needs
 
 returns-3 : tie.Need-returns-3
+unfolding sheetRun
 returns-3 c =
-    let sound = c .before .before in
-    let tested = sound .before .before in
-    let a = entry (on tested .before .before) .args in
-    answered (a .sheet .now) (a .inputs .now) (a .out .now) (stateOf (a .state)) _
+    let state = c .before .before in
+    let delays = prepared (state .before) in
+    let a = start delays .args in
+    let w = a .sheet .now in
+    let q = stateOf (a .state) in
+    answered w (a .inputs .now) (a .out .now) q
     (c .stops3 .ensures .0 (a .out .now)
-    ∙ run-short (a .sheet .now) (a .inputs .now) (a .out .now) (stateOf (a .state)) (past (on tested)) (admitted sound) (c .before .if3 .taken)) (omega (arith, c .stops3 .ensures .1))
+    ∙ stopped-short (kOf w) (sheetStep w) (sheetRefusal w) (stateOk w q) q (a .inputs .now) (a .out .now) (past (checked delays))
+    (admitted state) (c .before .if3 .taken)) (omega (arith, c .stops3 .ensures .1))
 
 ticks-requires : tie.Need-ticks-requires
 ticks-requires c κs =
-    let sound = c .before .before .before .before in
-    let tested = sound .before .before in
-    (past (on tested), delayed tested .before .before .planned .ensures, delays-right tested, admitted sound, omega (arith, c .before .before .before .if3 .left))
+    let room = c .before .before .before in
+    let delays = prepared (room .before .before) in
+    (delays .before .before .planned .ensures, delays .timer-delays .ensures, admitted (room .before), omega (arith, room .if3 .left))
 
 same-length : tie.Need-same-length
 same-length c = search needs
 
 returns-4 : tie.Need-returns-4
+unfolding sheetRun
 returns-4 c =
-    let sound = c .before .before .before .before .before .before .before in
-    let tested = sound .before .before in
-    let a = entry (on tested .before .before) .args in
-    answered (a .sheet .now) (a .inputs .now) (a .out .now) (stateOf (a .state)) _
-    (c .before .before .ticks .ensures .0
-    ∙ run-ticks (a .sheet .now) (a .inputs .now) (a .out .now) (stateOf (a .state)) (past (on tested)) (admitted sound) (omega (arith, c .before .before .before .before .before .before .if3 .left))) (c .before .before .ticks .ensures .1)
+    let end = c .before .before in
+    let room = ready end in
+    let delays = prepared (room .before .before) in
+    let a = start delays .args in
+    let w = a .sheet .now in
+    let q = stateOf (a .state) in
+    answered w (a .inputs .now) (a .out .now) q
+    (end .ticks .ensures .0
+    ∙ goes-on (kOf w) (sheetStep w) (sheetRefusal w) (stateOk w q) q (a .inputs .now) (a .out .now) (past (checked delays))
+    (admitted (room .before)) (omega (arith, room .if3 .left))) (end .ticks .ensures .1)
 
 pub run-spec : {M : Type 1} → statement M
 run-spec =
@@ -116,7 +138,7 @@ run-spec =
     stops-requires
     returns
     planned-requires
-    delays-of-requires
+    timer-delays-requires
     state-ok-requires
     stops-requires-2
     returns-2

@@ -1,80 +1,154 @@
--- `simulator::sheet_run::ticks` meets its contract. The loop's invariant is `Kept`: what is left from here, by the
+-- `simulator::sheet_run::ticks` meets its contract. The loop's invariant is `ReachedModes`: what is left from here, by the
 -- deadlines now, gives what all gives from the start. Assumes nothing.
-use mathlib.Core.Path.{_≡_, refl, sym, ap, ap₂, _∙_}
-use mathlib.Core.Bool.{Bool, true}
-use mathlib.Core.List.{List}
+use mathlib.Core.Path.{_≡_, sym, ap, ap₂, _∙_}
+use mathlib.Core.Bool.{true}
 use borrow.Author.Needs.{needs}
 use Prim.Native.Nat.{ℕ, _+_, _-_, _*_, _/_, _^_, _≤_, _<_}
 use native.Mathlib.Omega.{arith}
-use lib.Dec.{eqb}
 use lib.ListN.{length, getD}
-use Rattle.sets.specs.Sets.{has, meet, those}
+use Rattle.sets.specs.Sets.{has, meet}
 use Rattle.rows.specs.Over.{over}
 use Rattle.meaning.specs.Sheet.{kOf}
-use Rattle.meaning.specs.Run.{ran}
-use Rattle.meaning.specs.SheetRun.{stateOk, sheetTicks, tickFrom}
+use Rattle.meaning.specs.Reaction.{running}
+use Rattle.meaning.specs.Run.{State, ran}
+use Rattle.meaning.specs.SheetRun.{sheetTicks}
 use Rattle.meaning.proofs.SheetLaws.{Sound, sound, k-le}
 use Rattle.sheet.proofs.Past.{head-read}
-use Rattle.reaction.specs.Rounds.{tickOf}
-use Rattle.run.specs.Runs.{totalOf}
-use Rattle.run.proofs.RunPlaces.{input-below}
+use Rattle.reaction.specs.Plan.{timersWord}
+use Rattle.reaction.proofs.PlanLaws.{running-meet}
+use Rattle.run.specs.Counts.{totalOf}
+use Rattle.run.specs.States.{stateOf}
+use Rattle.run.proofs.LoopLaws.{input-below}
 use Rattle.simulator.proofs.DelayLaws.{delay-word}
-use Rattle.simulator.proofs.RunLaws.{stateAt, Kept, kept-start, kept-running, kept-later, kept-done, kept-foreign, tick-now, kept-refused, kept-turn, tick-begins}
+use Rattle.simulator.proofs.SheetRunLaws.{stateAt, ReachedModes, start-state, start-modes, later, ends-done, ends-foreign, tick-begins, ends-refused, next-turn}
 use Rattle.simulator.proofs.sheet_run.ticks.Statement.{statement}
 use Rattle.simulator.proofs.sheet_run.ticks.Tie as tie
 
 abbrev Inv-loop : tie.InvT-loop
-Inv-loop sheet plan delays inputs out₀ timers k ends₀ x₀ live₀ total₀ i₀ out ends x live total i = Kept sheet inputs out₀ (record { at = x₀; readings = ends₀ }) out ends x live (totalOf total) i × (total .1 < 4294967296)
+Inv-loop sheet plan delays inputs out₀ timers k ends₀ x₀ live₀ total₀ i₀ out ends x live total i =
+    ReachedModes sheet inputs out₀ (stateAt sheet x₀ ends₀ 0) out ends x live (totalOf total) i × (total .1 < 4294967296)
 
 abbrev μ-loop : tie.MeasureT-loop
 μ-loop sheet plan delays inputs out₀ timers k ends₀ x₀ live₀ total₀ i₀ out ends x live total i = length inputs - i
 
--- the function's entry, and the sheet past 1 to 6
-abbrev entry : (c : tie.At-loop Inv-loop μ-loop) → tie.Start Inv-loop μ-loop
-entry c = c .before .before .before .before .before .before .before .before .before
+-- ---- the places that the needs go back to, each from the one after it
 
-sheet-sound : (c : tie.At-loop Inv-loop μ-loop) → Sound (entry c .args .sheet .now)
-sheet-sound c = sound (entry c .args .sheet .now) (entry c .pre .0)
+-- before the loop: the entry, the events counted, the deadlines
+abbrev entry : tie.After-timers Inv-loop μ-loop → tie.Start Inv-loop μ-loop
+entry c = c .before .before .before .before
+
+abbrev counted : tie.After-deadlines Inv-loop μ-loop → tie.After-event-count Inv-loop μ-loop
+counted c = c .before .before
+
+abbrev dates : tie.At-loop Inv-loop μ-loop → tie.After-deadlines Inv-loop μ-loop
+dates c = c .before .before
+
+-- in a turn: the input set read, and below 2^k; the tick, and done; the timers that start; the deadlines; the five words put
+abbrev turn : tie.After-shared-slice-known3 Inv-loop μ-loop → tie.In-loop Inv-loop μ-loop
+turn c = c .before
+
+abbrev known : tie.After-due Inv-loop μ-loop → tie.Else1 Inv-loop μ-loop
+known c = c .before .before
+
+abbrev ticked : tie.Else2 Inv-loop μ-loop → tie.After-tick Inv-loop μ-loop
+ticked c = c .before .before
+
+abbrev passed : tie.After-from-set2 Inv-loop μ-loop → tie.Else2 Inv-loop μ-loop
+passed c = c .before .before
+
+abbrev again : tie.After-restart Inv-loop μ-loop → tie.After-from-set2 Inv-loop μ-loop
+again c = c .before .before .before
+
+abbrev restarted : tie.After-five-words Inv-loop μ-loop → tie.After-restart Inv-loop μ-loop
+restarted c = c .before .before
+
+abbrev put : tie.After-slice-known2 Inv-loop μ-loop → tie.After-put-five Inv-loop μ-loop
+put c = c .before .before
+
+-- the entry from the deadlines and from the loop's head; the turn and the head from the tick; the tick from what follows it
+abbrev begun : tie.After-deadlines Inv-loop μ-loop → tie.Start Inv-loop μ-loop
+begun c = entry (counted c .before)
+
+abbrev start : tie.At-loop Inv-loop μ-loop → tie.Start Inv-loop μ-loop
+start c = begun (dates c)
+
+abbrev inside : tie.After-tick Inv-loop μ-loop → tie.In-loop Inv-loop μ-loop
+inside c = turn (known (c .before) .before)
+
+abbrev head : tie.After-tick Inv-loop μ-loop → tie.At-loop Inv-loop μ-loop
+head c = inside c .before
+
+abbrev left : tie.After-restart Inv-loop μ-loop → tie.After-tick Inv-loop μ-loop
+left c = ticked (passed (again c))
+
+abbrev done : tie.After-slice-known2 Inv-loop μ-loop → tie.After-restart Inv-loop μ-loop
+done c = restarted (put c .before)
+
+-- ---- what holds there
+
+sheet-sound : (c : tie.At-loop Inv-loop μ-loop) → Sound (start c .args .sheet .now)
+sheet-sound c = sound _ (start c .pre .0 .passes)
+
+count-is : (c : tie.At-loop Inv-loop μ-loop) → counted (dates c) .event-count .result ≡ kOf (start c .args .sheet .now)
+count-is c = counted (dates c) .event-count .ensures
+
+-- so few ticks that every count fits
+short : (c : tie.In-loop Inv-loop μ-loop) → c .before .loop .i < 2305843009213693952
+short c = let s = start (c .before) in omega (arith, c .loop-test .taken, s .good .1 .1 .1 .0 .1)
+
+-- the timers that run, and no deadline of theirs is past
+runs : (c : tie.At-loop Inv-loop μ-loop)
+    → let a = start c .args in meet (c .loop .live) (getD (a .plan .now) timersWord 0) ≡ running (a .sheet .now) (c .loop .x)
+runs c = ap₂ meet (c .loop .inv .0 .sources) (start c .pre .0 .timingAt) ∙ running-meet _ _
+
+not-past : (c : tie.At-loop Inv-loop μ-loop) (t : ℕ)
+    → has (meet (c .loop .live) (getD (start c .args .plan .now) timersWord 0)) t ≡ true → c .loop .i ≤ getD (c .loop .ends) t 0
+not-past c = later (c .loop .inv .0) (runs c)
+
+-- the run from the deadlines at the start is the run from the readings
+long : (c : tie.After-deadlines Inv-loop μ-loop) → length (c .deadlines .result) ≡ 64
+long c = search needs
+
+from-start : (c : tie.At-loop Inv-loop μ-loop)
+    → let a = start c .args in
+    ran (a .out .now) (sheetTicks (a .sheet .now) (a .inputs .now) (stateAt (a .sheet .now) (a .start .at) (dates c .deadlines .result) 0))
+    ≡ ran (a .out .now) (sheetTicks (a .sheet .now) (a .inputs .now) (stateOf (a .start)))
+from-start c =
+    let s = start c in
+    let a = s .args in
+    ap (λ (q : State). ran (a .out .now) (sheetTicks (a .sheet .now) (a .inputs .now) q))
+    (start-state (a .sheet .now) (a .inputs .now) (a .out .now) (sheet-sound c) (stateOf (a .start)) (s .pre .2) (dates c .deadlines .ensures) (long (dates c)))
+
+-- the input set has no bit at k or above
+input-ok : (c : tie.Else1 Inv-loop μ-loop)
+    → let at = turn (c .before) .before in
+    getD (start at .args .inputs .now) (at .loop .i) 0 / 2 ^ kOf (start at .args .sheet .now) ≡ 0
+input-ok c =
+    let at = turn (c .before) .before in
+    ap (λ (k : ℕ). getD (start at .args .inputs .now) (at .loop .i) 0 / 2 ^ k) (sym (count-is at)) ∙ c .if1 .left
+
+-- ---- the needs
 
 element-copy-out-timers : tie.Need-element-copy-out-timers Inv-loop μ-loop
 element-copy-out-timers c = search needs
 
 event-count-requires : tie.Need-event-count-requires Inv-loop μ-loop
-event-count-requires c κs = head-read _ (c .before .before .before .before .pre .0)
+event-count-requires c κs = head-read _ (entry c .pre .0 .passes)
 
 deadlines-requires : tie.Need-deadlines-requires Inv-loop μ-loop
 deadlines-requires c κs = search needs
 
 from-set-requires : tie.Need-from-set-requires Inv-loop μ-loop
-from-set-requires c κs = c .before .before .before .before .before .before .before .pre .1 .fromAt
+from-set-requires c κs = begun c .pre .0 .fromAt
 
 loop-holds : tie.Need-loop-holds Inv-loop μ-loop
 loop-holds c =
-    let s = c .before .before .before .before .before .before .before .before in
-    let e = c .before .deadlines .ensures in (
-      kept-start (s .args .sheet .now) (s .args .inputs .now) (s .args .out .now) (sound (s .args .sheet .now) (s .pre .0)) (s .args .start .at) (c .from-set .result)
-          (c .before .deadlines .result) (c .before .deadlines .result)
-          (ap (λ (l : List ℕ). stateOk (s .args .sheet .now) (record { at = s .args .start .at; readings = l })) e ∙ s .pre .3)
-          (search needs) (s .pre .4) refl (c .from-set .ensures),
+    let s = begun (c .before) in
+    let a = s .args in (
+      start-modes (a .sheet .now) (a .inputs .now) (a .out .now) (sound _ (s .pre .0 .passes)) (stateOf (a .start)) (s .pre .2)
+          (c .before .deadlines .ensures) (long (c .before)) (c .from-set .ensures) (s .pre .3),
       omega arith,
     )
-
--- so few ticks that every count fits
-short : (c : tie.In-loop Inv-loop μ-loop) → c .before .loop .i < 2305843009213693952
-short c = let s = entry (c .before) in omega (arith, c .loop-test .taken, s .good .1 .1 .1 .0 .1)
-
--- no deadline of a running timer is past
-later : (c : tie.At-loop Inv-loop μ-loop) (t : ℕ) → has (meet (c .loop .live) (getD (entry c .args .plan .now) 544 0)) t ≡ true → c .loop .i ≤ getD (c .loop .ends) t 0
-later c = kept-later _ _ _ (sheet-sound c) _ _ _ _ _ _ _ (c .loop .inv .0) _ (entry c .pre .1)
-
--- the run from the deadlines at the start is the run from the readings
-from : (c : tie.At-loop Inv-loop μ-loop)
-    → let a = entry c .args in
-    ran (a .out .now) (sheetTicks (a .sheet .now) (a .inputs .now) (record { at = a .start .at; readings = c .before .before .deadlines .result }))
-    ≡ ran (a .out .now) (sheetTicks (a .sheet .now) (a .inputs .now) (record { at = a .start .at; readings = a .start .readings }))
-from c =
-    let a = entry c .args in
-    ap (λ (l : List ℕ). ran (a .out .now) (sheetTicks (a .sheet .now) (a .inputs .now) (record { at = a .start .at; readings = l }))) (c .before .before .deadlines .ensures)
 
 mul-input : tie.Need-mul-input Inv-loop μ-loop
 mul-input c = search needs
@@ -83,41 +157,26 @@ shared-slice-read-input : tie.Need-shared-slice-read-input Inv-loop μ-loop
 shared-slice-read-input c = search needs
 
 shr-if1 : tie.Need-shr-if1 Inv-loop μ-loop
-shr-if1 c = omega (arith, c .before .before .before .before .before .before .event-count .ensures, k-le _ (sheet-sound (c .before .before)))
+shr-if1 c = let at = turn c .before in omega (arith, count-is at, k-le _ (sheet-sound at))
 
 ended-requires : tie.Need-ended-requires Inv-loop μ-loop
-ended-requires c κs = later (c .before .before .before .before)
+ended-requires c κs = not-past (turn (c .before .before) .before)
 
 same-length : tie.Need-same-length Inv-loop μ-loop
 same-length c = search needs
 
 returns : tie.Need-returns Inv-loop μ-loop
 returns c =
-    let at = c .before .before .before .before .before in
-    let input = getD (entry at .args .inputs .now) (at .loop .i) 0 in (
+    let foreign = c .before .before in
+    let in-turn = turn (foreign .before) in
+    let at = in-turn .before in
+    let input = getD (start at .args .inputs .now) (at .loop .i) 0 in (
       c .ended .ensures .0 (at .loop .out)
-          ∙ kept-foreign _ _ _ (sheet-sound at) _ _ _ _ _ _ _ (at .loop .inv .0) _ (entry at .pre .1) (c .before .before .before .before .loop-test .taken)
-          (λ e. c .before .before .if1 .taken (ap (λ (k : ℕ). input / 2 ^ k) (at .before .before .before .before .event-count .ensures) ∙ e))
-          ∙ from at,
+          ∙ ends-foreign (at .loop .inv .0) (runs at) (in-turn .loop-test .taken)
+          (λ e. foreign .if1 .taken (ap (λ (k : ℕ). input / 2 ^ k) (count-is at) ∙ e))
+          ∙ from-start at,
       omega (arith, c .ended .ensures .1, at .loop .inv .1),
     )
-
--- the input set has no bit at k or above
-input-ok : (c : tie.Else1 Inv-loop μ-loop)
-    → let at = c .before .before .before in
-    getD (entry at .args .inputs .now) (at .loop .i) 0 / 2 ^ kOf (entry at .args .sheet .now) ≡ 0
-input-ok c =
-    let at = c .before .before .before in
-    ap (λ (k : ℕ). getD (entry at .args .inputs .now) (at .loop .i) 0 / 2 ^ k) (sym (at .before .before .before .before .event-count .ensures)) ∙ c .if1 .left
-
--- the tick is that of the state now
-ticked : (c : tie.After-tick Inv-loop μ-loop)
-    → let at = c .before .before .before .before .before .before in
-    tickOf (c .tick .result) ≡ tickFrom (entry at .args .sheet .now) (stateAt (entry at .args .sheet .now) (at .loop .x) (at .loop .ends) (at .loop .i)) (getD (entry at .args .inputs .now) (at .loop .i) 0)
-ticked c =
-    let at = c .before .before .before .before .before .before in
-    c .tick .ensures .0
-    ∙ tick-now _ _ _ (sheet-sound at) _ _ _ _ _ _ _ (at .loop .inv .0) _ (entry at .pre .1) (c .before .due .result .set) (c .before .due .ensures .0)
 
 add-now : tie.Need-add-now Inv-loop μ-loop
 add-now c = search needs
@@ -127,97 +186,89 @@ due-requires c κs = search needs
 
 tick-requires : tie.Need-tick-requires Inv-loop μ-loop
 tick-requires c κs =
-    let at = c .before .before .before .before .before in
-    let s = entry at in
-    let running = kept-running _ _ _ (sheet-sound at) _ _ _ _ _ _ _ (at .loop .inv .0) _ (s .pre .1) in
-    let p : ℕ → Bool = λ t. eqb (getD (at .loop .ends) t 0) (at .loop .i + 1) in (
-      s .pre .0,
-      s .pre .1,
-      tick-begins _ _ _ _ p (at .loop .inv .0 .sources) (c .due .ensures .0 ∙ ap (λ (y : ℕ). those 64 y p) running),
-      input-below _ _ (input-ok (c .before .before)),
-    )
+    let at = turn (known c .before) .before in
+    (start at .pre .0, tick-begins (at .loop .inv .0) (runs at) (c .due .ensures .0), input-below _ _ (input-ok (known c)))
 
 number-requires : tie.Need-number-requires Inv-loop μ-loop
 number-requires c κs = search needs
 
 ended-requires-2 : tie.Need-ended-requires-2 Inv-loop μ-loop
-ended-requires-2 c κs = later (c .before .before .before .before .before .before .before .before .before)
+ended-requires-2 c κs = not-past (head (c .before .before .before))
 
 same-length-2 : tie.Need-same-length-2 Inv-loop μ-loop
-same-length-2 c = omega (arith, c .before .before .before .before .before .before .before .before .before .before .loop .inv .0 .same)
+same-length-2 c = omega (arith, head (c .before .before .before .before) .loop .inv .0 .reached .same)
 
 returns-2 : tie.Need-returns-2 Inv-loop μ-loop
 returns-2 c =
-    let ticks = c .before .before .before .before in
-    let at = ticks .before .before .before .before .before .before in (
+    let refused = c .before .before in
+    let tick = refused .before .before in
+    let at = head tick in (
       c .ended2 .ensures .0 (at .loop .out)
-          ∙ kept-refused _ _ _ (sheet-sound at) _ _ _ _ _ _ _ (at .loop .inv .0) _ (entry at .pre .1) (ticks .before .before .before .before .before .loop-test .taken)
-          (input-ok (ticks .before .before .before)) (tickOf (ticks .tick .result)) (ticked ticks)
-          (λ e. c .before .before .if2 .taken (c .before .before .before .number .ensures ∙ e))
-          ∙ from at,
+          ∙ ends-refused (at .loop .inv .0) (runs at) (tick .before .due .ensures .0) (inside tick .loop-test .taken) (input-ok (known (tick .before)))
+          (tick .tick .ensures .0) (λ e. refused .if2 .taken (refused .before .number .ensures ∙ e))
+          ∙ from-start at,
       omega (arith, c .ended2 .ensures .1, at .loop .inv .1),
     )
 
 from-set-requires-2 : tie.Need-from-set-requires-2 Inv-loop μ-loop
-from-set-requires-2 c κs = entry (c .before .before .before .before .before .before .before .before .before .before) .pre .1 .fromAt
+from-set-requires-2 c κs = start (head (ticked (c .before))) .pre .0 .fromAt
 
 restart-requires : tie.Need-restart-requires Inv-loop μ-loop
 restart-requires c κs =
-    let at = c .before .before .before .before .before .before .before .before .before .before .before .before in
-    (at .loop .inv .0 .long, omega (arith, short (c .before .before .before .before .before .before .before .before .before .before .before)), delay-word _ (entry at .args .delays .now) (entry at .pre .2) (sheet-sound at))
+    let tick = ticked (passed (c .before .before)) in
+    let at = head tick in
+    (at .loop .inv .0 .long, omega (arith, short (inside tick)), λ t l. delay-word _ (start at .pre .1) t l (sheet-sound at))
 
 mul-put-five : tie.Need-mul-put-five Inv-loop μ-loop
-mul-put-five c = omega (arith, short (c .before .before .before .before .before .before .before .before .before .before .before .before .before))
+mul-put-five c = omega (arith, short (inside (left (c .before))))
 
 five-words-requires : tie.Need-five-words-requires Inv-loop μ-loop
 five-words-requires c κs = search needs
 
 put-five-requires : tie.Need-put-five-requires Inv-loop μ-loop
 put-five-requires c κs =
-    let on = c .before .before .before .before .before .before .before .before .before .before .before .before .before .before in
-    omega (arith, on .loop-test .taken, on .before .loop .inv .0 .room)
+    let on = inside (left (restarted c)) in
+    omega (arith, on .loop-test .taken, on .before .loop .inv .0 .reached .room)
 
 with-rounds-requires : tie.Need-with-rounds-requires Inv-loop μ-loop
 with-rounds-requires c κs =
-    let on = c .before .before .before .before .before .before .before .before .before .before .before .before .before .before .before .before .before in
+    let on = inside (left (done c)) in
     (omega (arith, short on, on .before .loop .inv .0 .few), on .before .loop .inv .1)
 
 add-i : tie.Need-add-i Inv-loop μ-loop
-add-i c = omega (arith, short (c .before .before .before .before .before .before .before .before .before .before .before .before .before .before .before .before .before .before))
+add-i c = omega (arith, short (inside (left (done (c .before)))))
 
 loop-less : tie.Need-loop-less Inv-loop μ-loop
-loop-less c = omega (arith, c .before .before .before .before .before .before .before .before .before .before .before .before .before .before .before .before .before .before .loop-test .taken)
+loop-less c = omega (arith, inside (left (done (c .before))) .loop-test .taken)
 
 loop-again : tie.Need-loop-again Inv-loop μ-loop
 loop-again c =
-    let ticks = c .before .before .before .before .before .before .before .before .before .before .before .before .before in
-    let at = ticks .before .before .before .before .before .before in
-    let restart = c .before .before .before .before .before .before .restart in
-    let put = c .before .before .before .put-five in (
-      kept-turn _ _ _ (sheet-sound at) _ _ _ _ _ _ _ (at .loop .inv .0) (entry at .args .delays .now) (entry at .pre .2) (ticks .before .before .before .before .before .loop-test .taken)
-          (input-ok (ticks .before .before .before)) (tickOf (ticks .tick .result)) (ticked ticks)
-          (sym (c .before .before .before .before .before .before .before .before .before .before .before .before .number .ensures) ∙ c .before .before .before .before .before .before .before .before .before .before .before .if2 .left)
-          _ _ _ _ _
-          (ap₂ meet (ap₂ meet (c .before .before .before .before .before .before .before .before .from-set2 .ensures) (ticks .tick .ensures .1)) (entry at .pre .1 .timingAt))
-          (ticks .tick .ensures .1)
-          (c .with-rounds .ensures .0)
-          (put .ensures ∙ ap (over (at .loop .out) (5 * at .loop .i)) (c .before .before .before .before .five-words .ensures))
-          (restart .ensures),
+    let at-put = put (c .before) in
+    let after = done (c .before) in
+    let ok = passed (again after) in
+    let tick = ticked ok in
+    let at = head tick in
+    let p = start at .pre in (
+      next-turn (at .loop .inv .0) (runs at) (tick .before .due .ensures .0) (inside tick .loop-test .taken) (input-ok (known (tick .before)))
+          (tick .tick .ensures .0) (sym (ok .before .number .ensures) ∙ ok .if2 .left)
+          (ap₂ meet (again after .from-set2 .ensures) (ap₂ meet (tick .tick .ensures .1) (p .0 .timingAt) ∙ running-meet _ _))
+          (p .1) (after .restart .ensures)
+          (at-put .put-five .ensures ∙ ap (over (at .loop .out) (5 * at .loop .i)) (at-put .before .five-words .ensures))
+          (tick .tick .ensures .1) (c .with-rounds .ensures .0),
       c .with-rounds .ensures .1,
     )
 
 ended-requires-3 : tie.Need-ended-requires-3 Inv-loop μ-loop
-ended-requires-3 c κs = later (c .before .before)
+ended-requires-3 c κs = not-past (c .before .before)
 
 same-length-3 : tie.Need-same-length-3 Inv-loop μ-loop
 same-length-3 c = search needs
 
 returns-3 : tie.Need-returns-3 Inv-loop μ-loop
 returns-3 c =
-    let at = c .before .before .before in (
-      c .ended3 .ensures .0 (at .loop .out)
-          ∙ kept-done _ _ _ (sheet-sound at) _ _ _ _ _ _ _ (at .loop .inv .0) _ (entry at .pre .1) (c .before .before .loop-test .left)
-          ∙ from at,
+    let over = c .before .before in
+    let at = over .before in (
+      c .ended3 .ensures .0 (at .loop .out) ∙ ends-done (at .loop .inv .0) (runs at) (over .loop-test .left) ∙ from-start at,
       omega (arith, c .ended3 .ensures .1, at .loop .inv .1),
     )
 

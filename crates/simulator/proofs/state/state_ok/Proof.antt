@@ -1,24 +1,32 @@
 -- `simulator::state::state_ok` meets its contract: at power-on no timer runs, so the readings alone decide; else the set
 -- does first. Assumes nothing.
-use mathlib.Core.Path.{sym, ap, _∙_}
+use mathlib.Core.Path.{ap, _∙_}
 use mathlib.Core.Logic.{⊎-elim}
-use borrow.Author.Tests.{not-true, not-false}
+use borrow.Author.Needs.{needs}
 use Prim.Native.Nat.{ℕ}
 use lib.ListN.{getD}
+use Rattle.sets.proofs.Loops.{passed, failed}
 use Rattle.meaning.specs.Run.{readingsOk}
-use Rattle.simulator.proofs.StateLaws.{state-inconsistent, state-readings, state-fresh}
-use borrow.Author.Needs.{needs}
+use Rattle.run.specs.States.{stateOf}
+use Rattle.simulator.proofs.SheetStateLaws.{state-inconsistent, state-fresh, state-consistent}
 use Rattle.simulator.proofs.state.state_ok.Statement.{statement}
 use Rattle.simulator.proofs.state.state_ok.Tie as tie
+
+-- the function's entry, from where the set is tested; that place from the end
+abbrev entry : tie.After-struct-known → tie.Start
+entry c = c .before .before
+
+abbrev tested : tie.After-readings-ok → tie.Joined1
+tested c = c .before .before .before .before
 
 is-consistent-requires : tie.Need-is-consistent-requires
 is-consistent-requires c κs = search needs
 
 returns : tie.Need-returns
 returns c =
-    let s = c .before .before .before .before in
-    state-inconsistent (s .args .sheet .now) (s .args .delays .now) (s .pre .2) (s .args .at) (s .args .readings .now) (c .before .before .if1 .taken)
-    (sym (c .before .is-consistent .ensures) ∙ not-true _ (c .if2 .taken))
+    let set = c .before .before in
+    let a = entry (set .before) .args in
+    state-inconsistent (a .sheet .now) (stateOf (a .state)) (set .if1 .taken) (failed (c .before .is-consistent .ensures) (c .if2 .taken))
 
 running-requires : tie.Need-running-requires
 running-requires c κs = search needs
@@ -28,14 +36,15 @@ readings-ok-requires c κs = search needs
 
 returns-2 : tie.Need-returns-2
 returns-2 c =
-    let s = c .before .before .before .before in
-    let l = s .args .readings .now in
+    let s = entry (tested c .before) in
+    let a = s .args in
+    let q = stateOf (a .state) in
     c .readings-ok .ensures
-    ∙ ap (λ (y : ℕ). readingsOk y (λ t. getD (s .args .delays .now) t 0) (record { at = 0; readings = l })) (c .before .running .ensures)
+    ∙ ap (λ (y : ℕ). readingsOk y (λ t. getD (a .delays .now) t 0) (q .readings)) (c .before .before .running .ensures)
     ∙ ⊎-elim
-    (λ w. state-readings (s .args .sheet .now) (s .args .delays .now) (s .pre .2) (s .args .at) l (w .0 .taken) (sym (w .1 .ensures) ∙ not-false _ (w .2 .left)))
-    (λ w. state-fresh (s .args .sheet .now) (s .args .delays .now) (s .pre .2) (s .args .at) l (w .left))
-    (c .before .before .if1 .came)
+    (λ w. state-consistent (a .sheet .now) q (s .pre .1) (w .0 .taken) (passed (w .1 .ensures) (w .2 .left)))
+    (λ w. state-fresh (a .sheet .now) q (s .pre .1) (w .left))
+    (tested c .if1 .came)
 
 pub state-ok-spec : {M : Type 1} → statement M
 state-ok-spec =
