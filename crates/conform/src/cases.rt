@@ -7,7 +7,9 @@ use super::text::Input;
 use meaning::refusal::Refusal;
 use meaning::refusal::number;
 use run::counts::Rounds;
+use run::state::STATE_WORDS;
 use run::state::State;
+use run::state::from_words;
 use simulator::sheet_run::Ran;
 
 // The text that is left after a sheet, and how many words it has.
@@ -16,9 +18,9 @@ pub struct Read {
     pub words: usize,
 }
 
-// Readings, and what is left after them.
-struct Readings {
-    values: [u32; 64],
+// The words of a state, and what is left after them.
+struct StateRead {
+    words: [u32; STATE_WORDS],
     input: Input,
 }
 
@@ -49,10 +51,11 @@ pub fn digest(words: &[u32]) -> u64 {
     h
 }
 
-// Readings from pairs of transition and reading; every other reading is 0. A pair whose transition is above 63 is
-// passed over.
-fn read_pairs(buf: &mut [u8; 65536], from: Input, pairs: usize) -> Readings {
-    let mut values = [0u32; 64];
+// A state from where it is and pairs of transition and reading; every other reading is 0. A pair whose transition is above 63
+// is passed over.
+fn read_pairs(buf: &mut [u8; 65536], from: Input, at: u32, pairs: usize) -> StateRead {
+    let mut words = [0u32; STATE_WORDS];
+    words[0] = at;
     let mut input = from;
     let mut i = 0;
     while i < pairs {
@@ -60,12 +63,12 @@ fn read_pairs(buf: &mut [u8; 65536], from: Input, pairs: usize) -> Readings {
         let r = text::number(buf, t.input);
         let place = text::at_most(t.value, 64);
         if place < 64 {
-            values[place] = r.value;
+            words[1 + place] = r.value;
         }
         input = r.input;
         i += 1;
     }
-    Readings { values, input }
+    StateRead { words, input }
 }
 
 // Reads a state, the input sets and the number of output words of a run.
@@ -74,18 +77,15 @@ pub fn read_run(buf: &mut [u8; 65536], from: Input, inputs: &mut [u32]) -> Asked
 {
     let at = text::number(buf, from);
     let pairs = text::number(buf, at.input);
-    let read = read_pairs(buf, pairs.input, text::at_most(pairs.value, 64));
+    let read = read_pairs(buf, pairs.input, at.value, text::at_most(pairs.value, 64));
     let m = text::number(buf, read.input);
     let count = text::at_most(m.value, inputs.len());
     let after = text::numbers(buf, m.input, &mut inputs[..count]);
     let o = text::number(buf, after);
     let outputs = text::at_most(o.value, 400);
-    let readings = read.values;
+    let words = read.words;
+    let state = from_words(&words);
     let input = o.input;
-    let state = State {
-        at: at.value,
-        readings,
-    };
     Asked {
         state,
         inputs: count,

@@ -9,7 +9,7 @@ use decimals::request::request_ok;
 use decimals::request::sheet_length;
 use decimals::request::tick_count;
 use meaning::refusal::number;
-use run::state::State;
+use run::state::fresh;
 
 fn print_refusal(n: u32) {
     io::write_all(1, b"refused ");
@@ -52,11 +52,7 @@ fn run_table(table: &[u32], inputs: &[u32])
     requires { ⌜ length (now inputs) ≤ 1024 ⌝ }
 {
     let mut out = [0u32; 5120];
-    let fresh = State {
-        at: 0,
-        readings: [0; 64],
-    };
-    let ran = recorder::table_run::run(table, fresh, inputs, &mut out);
+    let ran = recorder::table_run::run(table, fresh(), inputs, &mut out);
     let why = ran.refusal;
     print_ticks(&out, ran.done.0);
     if number(why) != 0 {

@@ -9,7 +9,7 @@ use lib.Dec.{T}
 use lib.ListN.{length}
 use lib.Pow.{shl-exact, pow-mono}
 use Rattle.meaning.specs.Table.{wordIn, bIn, offsetIn, timersIn, tableOk}
-use Rattle.table.proofs.Sound.{length-is, block-inside}
+use Rattle.table.proofs.LayoutFacts.{length-is, block-inside}
 
 -- a block's mask and timers lie within the table
 pub header-inside : (w : List ℕ) → T (tableOk w) → (b : ℕ) → b < bIn w → offsetIn w b + 3 ≤ length w

@@ -18,7 +18,7 @@ use Rattle.meaning.specs.Run.{State, reading, dueTimers, nextState}
 use Rattle.meaning.specs.Table.{tIn, bIn, sourceIn, delayIn, timersIn, cellWord, tableOk}
 use Rattle.meaning.specs.TableRun.{stateAfterCell, isStale}
 use Rattle.meaning.proofs.ReadingLaws.{next-reading, due-at}
-use Rattle.table.proofs.Sound.{t-le, delay-pos, source-lt}
+use Rattle.table.proofs.LayoutFacts.{t-le, delay-pos, source-lt}
 use Rattle.recorder.specs.Timers.{timersBelow, timersFrom}
 use Rattle.recorder.proofs.RowStoreLaws.{row-at}
 

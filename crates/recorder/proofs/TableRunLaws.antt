@@ -21,7 +21,9 @@ use Rattle.meaning.proofs.TableLaws.{dueNumber-lt}
 use Rattle.run.specs.Runs.{endedRun}
 use Rattle.run.proofs.DeadlineLaws.{stateFrom, due-deadlines, state-word, state-next, state-start, start-within}
 use Rattle.run.proofs.LoopLaws.{input-below, Reached, reached-start, reached-end, reached-foreign, reached-refused, reached-turn, stopped, stopped-refused, stopped-state, stopped-short, goes-on}
-use Rattle.table.proofs.Sound.{timers-few, timer-lt, delay-pos, delay-lt, cell-lt, cell-inside, next-lt}
+use Rattle.meaning.proofs.TableLaws.{cell-lt}
+use Rattle.meaning.proofs.LayoutLaws.{next-lt}
+use Rattle.table.proofs.LayoutFacts.{timers-few, timer-lt, delay-pos, delay-lt, cell-inside}
 use Rattle.recorder.specs.Timers.{timerDelayIn, timersFrom}
 use Rattle.recorder.proofs.RowStoreLaws.{row-at}
 use Rattle.recorder.proofs.TimerLaws.{delay-at}
@@ -193,7 +195,7 @@ module _ {w inputs out₀ : List ℕ} {q₀ : State} {out ends : List ℕ} {b i 
       (p .number ∙ ap₂ (λ (x y : ℕ). dueNumber (members 64 x) y) (p .running) due-now)
 
   there : c < cellsIn w b
-  there = cell-lt w h q input (k .low) (input-below (kIn w) input (p .below))
+  there = cell-lt w q input (input-below (kIn w) input (p .below))
 
   pub cell-room : cell + 6 ≤ length w
   cell-room = omega (arith, place-is, cell-inside w h b (k .low) c there)

@@ -18,7 +18,8 @@ use Rattle.meaning.specs.Lists.{rowFrom}
 use Rattle.meaning.specs.Run.{State, reading, isFresh, readingsOk}
 use Rattle.meaning.specs.Table.{bIn, delayIn, timersIn, tableOk}
 use Rattle.meaning.specs.TableRun.{tableStateOk}
-use Rattle.table.proofs.Sound.{b-pos, timers-first, timer-lt}
+use Rattle.meaning.proofs.LayoutLaws.{b-pos, timers-first}
+use Rattle.table.proofs.LayoutFacts.{timer-lt}
 use Rattle.run.proofs.ReadingTests.{readingFits, readings-ok-def}
 use Rattle.recorder.specs.Timers.{timerDelayIn}
 use Rattle.recorder.proofs.TimerLaws.{delay-at}

@@ -15,7 +15,7 @@ use Rattle.sets.proofs.Quantifiers.{has-union-over}
 use Rattle.meaning.specs.Lists.{rowFrom}
 use Rattle.meaning.specs.Table.{tIn, sourceIn, delayIn, tableOk}
 use Rattle.meaning.proofs.ListLaws.{rowFrom-ext}
-use Rattle.table.proofs.Sound.{delay-lt}
+use Rattle.table.proofs.LayoutFacts.{delay-lt}
 use Rattle.recorder.specs.Timers.{timerDelayIn, timersBelow, timersFrom}
 use Rattle.recorder.proofs.RowStoreLaws.{row-at, row-zeros, row-set}
 

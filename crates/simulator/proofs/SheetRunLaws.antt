@@ -219,7 +219,7 @@ module _ {s inputs out₀ : List ℕ} {q₀ : State} {out ends : List ℕ} {x li
             → ends′ ≡ rowFrom 0 64 (λ t. cond (has set t) (i + 1 + getD delays t 0) (getD ends t 0))
             → out′ ≡ over out (5 * i) (fiveWords (r .sets)) → live′ ≡ sourcesIn s (r .sets .modes) → total′ ≡ total + r .rounds
             → ReachedModes s inputs out₀ q₀ out′ ends′ (r .sets .modes) live′ total′ (i + 1)
-        next-turn n se ye ee oe le tt = 
+        next-turn n se ye ee oe le tt =
             rw (oe, le, tt, tick-now) (next-modes (sym (ap (λ (y : Tick). y .refusal) tick-now) ∙ n) (rw tick-now at se) ye ee l b)
 
 -- ---- the whole run: at most T rounds for each done tick

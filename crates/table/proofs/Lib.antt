@@ -2,4 +2,4 @@
 pub mod Places
 pub mod BlockTests
 pub mod TableParts
-pub mod Sound
+pub mod LayoutFacts

@@ -10,7 +10,7 @@ use Rattle.sets.proofs.Tests.{of-true}
 use Rattle.meaning.specs.Run.{readingsOk}
 use Rattle.meaning.specs.Table.{bIn, tableOk}
 use Rattle.run.specs.States.{stateOf}
-use Rattle.table.proofs.Sound.{head-sound}
+use Rattle.table.proofs.LayoutFacts.{head-sound}
 use Rattle.recorder.proofs.BlockPlaceLaws.{header-inside, timers-are}
 use Rattle.recorder.proofs.TableStateLaws.{state-outside, state-inside}
 use Rattle.recorder.proofs.state.state_ok.Statement.{statement}

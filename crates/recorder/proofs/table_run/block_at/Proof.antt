@@ -3,7 +3,7 @@ use mathlib.Core.Path.{refl, ap, _∙_}
 use Prim.Native.Nat.{ℕ, _+_}
 use native.Mathlib.Omega.{arith}
 use Rattle.sets.proofs.Tests.{of-true}
-use Rattle.table.proofs.Sound.{head-sound}
+use Rattle.table.proofs.LayoutFacts.{head-sound}
 use Rattle.recorder.proofs.BlockPlaceLaws.{header-inside, timers-are}
 use Rattle.recorder.proofs.table_run.block_at.Statement.{statement}
 use Rattle.recorder.proofs.table_run.block_at.Tie as tie

@@ -18,7 +18,7 @@ use Rattle.meaning.specs.Run.{State, ran}
 use Rattle.meaning.specs.TableRun.{tableTicks}
 use Rattle.run.specs.States.{stateOf}
 use Rattle.run.proofs.LoopLaws.{input-below}
-use Rattle.table.proofs.Sound.{head-sound, k-le}
+use Rattle.table.proofs.LayoutFacts.{head-sound, k-le}
 use Rattle.recorder.specs.declared.table_run.TableBlock.{TableBlock}
 use Rattle.recorder.specs.Runs.{TableBlockOf}
 use Rattle.recorder.proofs.TimerLaws.{delays-small}

@@ -6,7 +6,7 @@ use native.Mathlib.Nat.{le-antisymm}
 use native.Mathlib.Omega.{arith}
 use Rattle.sets.proofs.Tests.{of-true}
 use Rattle.meaning.specs.Lists.{rowFrom}
-use Rattle.table.proofs.Sound.{head-sound, t-le}
+use Rattle.table.proofs.LayoutFacts.{head-sound, t-le}
 use Rattle.recorder.proofs.TimerLaws.{delaysBelow, delays-start, delays-turn, delays-done}
 use Rattle.recorder.proofs.timers.delays.Statement.{statement}
 use Rattle.recorder.proofs.timers.delays.Tie as tie

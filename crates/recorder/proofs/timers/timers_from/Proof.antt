@@ -7,7 +7,7 @@ use native.Mathlib.Nat.{le-antisymm}
 use native.Mathlib.Omega.{arith}
 use Rattle.sets.proofs.Tests.{of-true}
 use Rattle.meaning.specs.Lists.{rowFrom}
-use Rattle.table.proofs.Sound.{head-sound, t-le, source-lt}
+use Rattle.table.proofs.LayoutFacts.{head-sound, t-le, source-lt}
 use Rattle.recorder.specs.Timers.{timersBelow}
 use Rattle.recorder.proofs.TimerLaws.{timers-start, timers-skip, timers-add, timers-done}
 use Rattle.recorder.proofs.timers.timers_from.Statement.{statement}

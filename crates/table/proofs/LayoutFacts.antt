@@ -1,25 +1,21 @@
--- What a table with a sound layout says: its counts, its timers, and where its blocks, cells and next blocks lie. Assumes nothing.
-use mathlib.Core.Path.{_≡_, sym, subst}
+-- What a table of sound layout says: its counts, its timers, and where its blocks and cells lie. Assumes nothing.
+use mathlib.Core.Path.{_≡_, subst}
 use mathlib.Core.Logic.{_⊎_, inl, inr}
 use mathlib.Core.Bool.{_&&_}
 use mathlib.Core.List.{List}
-use Prim.Native.Nat.{ℕ, _+_, _*_, _^_, _≤_, _<_}
+use Prim.Native.Nat.{ℕ, _+_, _*_, _≤_, _<_}
 use native.Mathlib.Nat.{mod-lt}
 use native.Mathlib.Omega.{arith}
-use lib.Arith.{digits-lt}
 use lib.Dec.{T, eqb, ltb, eqb→eq, ltb→lt, lit<}
 use lib.ListN.{length}
-use lib.Pow.{pow-add}
-use Rattle.sets.specs.Sets.{has, size, members, every}
+use Rattle.sets.specs.Sets.{has, size, every}
 use Rattle.sets.proofs.Tests.{and-l, and-r, or-e}
 use Rattle.sets.proofs.Facts.{every-e, everyIn-e}
-use Rattle.meaning.specs.Run.{State, dueTimers}
-use Rattle.meaning.specs.Table.{wordIn, kIn, tIn, bIn, sourceIn, delayIn, offsetIn, lengthIn, maskIn, timersIn, cellsIn, cellWord, timerOk, blockOk, tableOk}
-use Rattle.meaning.specs.TableRun.{dueNumber, cellOf}
-use Rattle.meaning.proofs.TableLaws.{dueNumber-lt}
+use Rattle.meaning.specs.Table.{wordIn, kIn, tIn, bIn, sourceIn, delayIn, offsetIn, lengthIn, timersIn, cellsIn, timerOk, blockOk, tableOk}
+use Rattle.meaning.proofs.LayoutLaws.{block-sound}
 use Rattle.table.specs.Parts.{headOk, pairsOk}
 use Rattle.table.proofs.Places.{Head, head-of, block-room}
-use Rattle.table.proofs.BlockTests.{nextTest, Block, block-of}
+use Rattle.table.proofs.BlockTests.{Block, block-of}
 use Rattle.table.proofs.TableParts.{table-is}
 
 module _ (w : List ℕ) (h : T (tableOk w)) where
@@ -43,9 +39,6 @@ module _ (w : List ℕ) (h : T (tableOk w)) where
   pub timer-sound : (t : ℕ) → t < tIn w → T (timerOk w t)
   timer-sound = every-e (tIn w) (timerOk w) (and-r (headOk w) (every (tIn w) (timerOk w)) first-two)
 
-  pub block-sound : (b : ℕ) → b < bIn w → T (blockOk w b)
-  block-sound = every-e (bIn w) (blockOk w) (and-r (headOk w && every (tIn w) (timerOk w) && pairsOk w) (every (bIn w) (blockOk w)) parts)
-
   -- ---- the head
 
   head : Head w
@@ -56,9 +49,6 @@ module _ (w : List ℕ) (h : T (tableOk w)) where
 
   pub t-le : tIn w ≤ 64
   t-le = head .t-le
-
-  pub b-pos : 1 ≤ bIn w
-  b-pos = head .b-pos
 
   pub b-le : bIn w ≤ 4096
   b-le = head .b-le
@@ -80,22 +70,11 @@ module _ (w : List ℕ) (h : T (tableOk w)) where
       go (inl e) = absurd (omega (arith, eqb→eq (wordIn w (4 + t)) 0 e))
       go (inr r) = ltb→lt (sourceIn w t) 32 (and-l (ltb (sourceIn w t) 32) (ltb 0 (delayIn w t)) r)
 
-  -- ---- block 0
-
-  first : T (eqb (maskIn w 0) 0 && eqb (timersIn w 0) 0)
-  first = block-of w 0 (block-sound 0 b-pos) .mask
-
-  pub mask-first : maskIn w 0 ≡ 0
-  mask-first = eqb→eq (maskIn w 0) 0 (and-l (eqb (maskIn w 0) 0) (eqb (timersIn w 0) 0) first)
-
-  pub timers-first : timersIn w 0 ≡ 0
-  timers-first = eqb→eq (timersIn w 0) 0 (and-r (eqb (maskIn w 0) 0) (eqb (timersIn w 0) 0) first)
-
   -- ---- any block
 
   module _ (b : ℕ) (l : b < bIn w) where
     block : Block w b
-    block = block-of w b (block-sound b l)
+    block = block-of w b (block-sound w h b l)
 
     pub timers-few : size 64 (timersIn w b) ≤ 6
     timers-few = block .few
@@ -115,24 +94,5 @@ module _ (w : List ℕ) (h : T (tableOk w)) where
     pub block-inside : offsetIn w b + lengthIn w b ≤ length w
     block-inside = block-room w pairs-sound b l
 
-    module _ (c : ℕ) (k : c < cellsIn w b) where
-      pub cell-inside : offsetIn w b + 3 + 6 * c + 5 < length w
-      cell-inside = omega (arith, length-is, block-inside)
-
-      next : T (nextTest w b c)
-      next = every-e (cellsIn w b) (nextTest w b) (block .next) c k
-
-      pub next-pos : 0 < cellWord w b c 0
-      next-pos = ltb→lt 0 (cellWord w b c 0) (and-l (ltb 0 (cellWord w b c 0)) (ltb (cellWord w b c 0) (bIn w)) next)
-
-      pub next-lt : cellWord w b c 0 < bIn w
-      next-lt = ltb→lt (cellWord w b c 0) (bIn w) (and-r (ltb 0 (cellWord w b c 0)) (ltb (cellWord w b c 0) (bIn w)) next)
-
-  -- ---- the cell of a tick
-
-  pub cell-lt : (q : State) (i : ℕ) → q .at < bIn w → i < 2 ^ kIn w → cellOf w q i < cellsIn w (q .at)
-  unfolding cellOf cellsIn size
-  cell-lt q i l k =
-      let ts = timersIn w (q .at) in
-      subst (λ (x : ℕ). dueNumber (members 64 ts) (dueTimers ts (q .readings)) * 2 ^ kIn w + i < x) (sym (pow-add 2 (length (members 64 ts)) (kIn w)))
-      (digits-lt (dueNumber-lt (members 64 ts) (dueTimers ts (q .readings))) k)
+    pub cell-inside : (c : ℕ) → c < cellsIn w b → offsetIn w b + 3 + 6 * c + 5 < length w
+    cell-inside c k = omega (arith, length-is, block-inside)
