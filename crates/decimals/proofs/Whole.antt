@@ -15,7 +15,7 @@ use Rattle.decimals.specs.Reading.{Reading, begun, refused, withGap, wit
 use Rattle.decimals.proofs.Steps.{lengthened, put, digit-fits, digit-large, gap-none, gap-put, gap-full, byte-digit, byte-gap, byte-other, numbers-digit, numbers-large, numbers-gap, numbers-other}
 
 -- the numbers that stand in the words fit there, and no digits make no number
-pub record Sound (x : Reading) : Type 0 where
+pub record SoundReading (x : Reading) : Type 0 where
   pub within : x .count ≤ length (x .words)
   pub idle : x .pending ≡ false → x .value ≡ 0
 
@@ -65,22 +65,22 @@ module _ (x r : Reading) where
 
 -- ---- a sound reading stays sound
 
-module _ (x : Reading) (s : Sound x) where
-  sound-refused : Sound (refused x)
+module _ (x : Reading) (s : SoundReading x) where
+  sound-refused : SoundReading (refused x)
   unfolding refused
   sound-refused = record { within = s .within; idle = s .idle }
 
-  sound-digit : (b : ℕ) → Sound (lengthened x b)
+  sound-digit : (b : ℕ) → SoundReading (lengthened x b)
   sound-digit b = record { within = s .within; idle = λ e. absurd (false≢true (sym e)) }
 
-  sound-put : x .count < length (x .words) → Sound (put x)
+  sound-put : x .count < length (x .words) → SoundReading (put x)
   sound-put h = record { within = simp length-set h; idle = λ _. refl }
 
   -- a gap, and then the numbers n, which `after` reads from where nothing is pending
   module _
       (n : Numbers)
       (after : Reading → Reading)
-      (reads : (y : Reading) → Sound y → y .pending ≡ false → y .value ≡ 0 → Reads y n (after y))
+      (reads : (y : Reading) → SoundReading y → y .pending ≡ false → y .value ≡ 0 → Reads y n (after y))
       (refuses : after (refused x) .good ≡ false)
     where
       reads-gap : (p : Bool) → x .pending ≡ p → Dec (length (x .words) ≤ x .count) → Reads x (closed p (x .value) n) (after (withGap x))
@@ -94,9 +94,9 @@ module _ (x : Reading) (s : Sound x) where
 -- ---- a text read from a sound reading
 
 abbrev From : List ℕ → Type 0
-From text = (x : Reading) → Sound x → Reads x (numbersFrom (x .pending) (x .value) text) (withGap (withText x text))
+From text = (x : Reading) → SoundReading x → Reads x (numbersFrom (x .pending) (x .value) text) (withGap (withText x text))
 
-module _ (bs : List ℕ) (rest : From bs) (x : Reading) (s : Sound x) (b : ℕ) where
+module _ (bs : List ℕ) (rest : From bs) (x : Reading) (s : SoundReading x) (b : ℕ) where
   off : Reads (refused x) (numbersFrom (refused x .pending) (refused x .value) bs) (withGap (withText (refused x) bs))
   off = rest (refused x) (sound-refused x s)
 
@@ -113,7 +113,7 @@ module _ (bs : List ℕ) (rest : From bs) (x : Reading) (s : Sound x) (b : ℕ) 
       rw (numbers-digit (x .pending) (x .value) b bs d l, byte-digit x b d, digit-fits x b l)
       record { good = k .good; list = k .list }
 
-  from-idle : (y : Reading) → Sound y → y .pending ≡ false → y .value ≡ 0 → Reads y (numbersFrom false 0 bs) (withGap (withText y bs))
+  from-idle : (y : Reading) → SoundReading y → y .pending ≡ false → y .value ≡ 0 → Reads y (numbersFrom false 0 bs) (withGap (withText y bs))
   from-idle y t p v =
       let same : numbersFrom (y .pending) (y .value) bs ≡ numbersFrom false 0 bs = rw (p, v) in
       subst (λ (n : Numbers). Reads y n (withGap (withText y bs))) same (rest y t)

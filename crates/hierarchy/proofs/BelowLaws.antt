@@ -71,7 +71,7 @@ module _ (s : List ℕ) (sd : Sound s) where
 
   module _ (x : ℕ) where
     -- completing mode p, for the set x, takes its child c
-    pub record Step (p c : ℕ) : Type 0 where
+    pub record ChildStep (p c : ℕ) : Type 0 where
       pub small : c < nOf s
       pub child : T (isChild s p c)
       pub only : kind s p ≡ 1 → keptChild s x p ≡ c
@@ -84,10 +84,10 @@ module _ (s : List ℕ) (sd : Sound s) where
     unfolding keptChild
     kept-child-cases m = last-cases (λ c. isChild s m c && has x c) (first s m) (nOf s)
 
-    pub kept-child-step : (m : ℕ) → m < nOf s → kind s m ≡ 1 → Step m (keptChild s x m)
+    pub kept-child-step : (m : ℕ) → m < nOf s → kind s m ≡ 1 → ChildStep m (keptChild s x m)
     kept-child-step m l k = go (kept-child-cases m)
       where
-        go : KeptChild m → Step m (keptChild s x m)
+        go : KeptChild m → ChildStep m (keptChild s x m)
         go (inl f) = record { small = f .0; child = and-l (isChild s m (keptChild s x m)) (has x (keptChild s x m)) (f .1); only = λ _. refl }
         go (inr f) =
             let r = first-child s sd m l k in
@@ -183,10 +183,10 @@ module _ (s : List ℕ) (sd : Sound s) where
     branch-below m y h = union-r (single m) (completedBelow s x m) y h
 
     -- a child that m takes, and what its branch holds
-    completed-below-e : (m y : ℕ) → m < nOf s → T (has (completedBelow s x m) y) → (c : ℕ) × Step m c × T (has (branch s x c) y)
+    completed-below-e : (m y : ℕ) → m < nOf s → T (has (completedBelow s x m) y) → (c : ℕ) × ChildStep m c × T (has (branch s x c) y)
     completed-below-e m y l h = go (eqb (kind s m) 1) refl
       where
-        go : (b : Bool) → eqb (kind s m) 1 ≡ b → (c : ℕ) × Step m c × T (has (branch s x c) y)
+        go : (b : Bool) → eqb (kind s m) 1 ≡ b → (c : ℕ) × ChildStep m c × T (has (branch s x c) y)
         go true e =
             let k = eqb-true (kind s m) 1 e in
             (keptChild s x m, kept-child-step m l k, subst (λ (z : ℕ). T (has z y)) (completed-below-serial m l k) h)
@@ -195,7 +195,7 @@ module _ (s : List ℕ) (sd : Sound s) where
             let r = gather-e (isChild s m) (branch s x) (nOf s) y (subst (λ (z : ℕ). T (has z y)) (completed-below-other m l k) h) in
             (r .0, record { small = r .1; child = r .2; only = λ q. absurd (k q) }, r .3)
 
-    completed-below-i : (m c y : ℕ) → m < nOf s → Step m c → T (has (branch s x c) y) → T (has (completedBelow s x m) y)
+    completed-below-i : (m c y : ℕ) → m < nOf s → ChildStep m c → T (has (branch s x c) y) → T (has (completedBelow s x m) y)
     completed-below-i m c y l t h = go (eqb (kind s m) 1) refl
       where
         go : (b : Bool) → eqb (kind s m) 1 ≡ b → T (has (completedBelow s x m) y)
@@ -207,13 +207,13 @@ module _ (s : List ℕ) (sd : Sound s) where
             (gather-i (isChild s m) (branch s x) (nOf s) y c (t .small) (t .child) h)
 
     -- with a mode of the branch, the children that it takes
-    branch-step : (k m p c : ℕ) → m < nOf s → nOf s ≤ k + m → T (has (branch s x m) p) → Step p c → T (has (branch s x m) c)
+    branch-step : (k m p c : ℕ) → m < nOf s → nOf s ≤ k + m → T (has (branch s x m) p) → ChildStep p c → T (has (branch s x m) c)
     branch-step zero m p c l b h t = absurd (omega arith)
     branch-step (suc k) m p c l b h t = go (branch-e m p h) (branch-step k)
       where
         go : (p ≡ m) ⊎ T (has (completedBelow s x m) p)
-            → ((d q y : ℕ) → d < nOf s → nOf s ≤ k + d → T (has (branch s x d) q) → Step q y → T (has (branch s x d) y)) → T (has (branch s x m) c)
-        go (inl e) ih = branch-below m c (completed-below-i m c c l (subst (λ (i : ℕ). Step i c) e t) (branch-top c))
+            → ((d q y : ℕ) → d < nOf s → nOf s ≤ k + d → T (has (branch s x d) q) → ChildStep q y → T (has (branch s x d) y)) → T (has (branch s x m) c)
+        go (inl e) ih = branch-below m c (completed-below-i m c c l (subst (λ (i : ℕ). ChildStep i c) e t) (branch-top c))
         go (inr a) ih =
             let r = completed-below-e m p l a in
             let d = r .0 in
@@ -222,7 +222,7 @@ module _ (s : List ℕ) (sd : Sound s) where
     -- ---- the branch is document 01's completion
 
     -- a child that p brings in is taken
-    brought : (p m : ℕ) → m < nOf s → T (isChild s p m) → T (brings s x p m) → Step p m
+    brought : (p m : ℕ) → m < nOf s → T (isChild s p m) → T (brings s x p m) → ChildStep p m
     unfolding brings
     brought p m l c h = record { small = l; child = c; only = go (or-e (eqb (kind s p) 2) (eqb (kind s p) 1 && eqb (first s p) m && not (some (nOf s) (λ i. isChild s p i && has x i))) h) }
       where
@@ -240,7 +240,7 @@ module _ (s : List ℕ) (sd : Sound s) where
             at (inr f) = f .0 ∙ is-first
 
     -- a child that is taken is in x, or p brings it in
-    taken : (p m : ℕ) → Step p m → Comp s x p → Comp s x m
+    taken : (p m : ℕ) → ChildStep p m → Comp s x p → Comp s x m
     taken p m t c = go (kind-of-parent p m (t .small) (t .child))
       where
         r : (0 < m) × (parent s m ≡ p)
@@ -277,7 +277,7 @@ module _ (s : List ℕ) (sd : Sound s) where
 
     module _ (e : ℕ) (en : e < nOf s) (b : Based s x e) where
       -- a serial mode with a child in x takes that child
-      keeps : (p m : ℕ) → m < nOf s → T (isChild s p m) → T (has x m) → Step p m
+      keeps : (p m : ℕ) → m < nOf s → T (isChild s p m) → T (has x m) → ChildStep p m
       keeps p m l c h = record { small = l; child = c; only = λ k. go (kept-child-cases p) }
         where
           go : KeptChild p → keptChild s x p ≡ m
@@ -288,7 +288,7 @@ module _ (s : List ℕ) (sd : Sound s) where
               b .lone d m (f .0) l (r .0) (q .0) (r .1 ∙ sym (q .1)) (and-r (isChild s p d) (has x d) (f .1)) h
           go (inr f) = absurd (f .1 m l (and-i (isChild s p m) (has x m) c h))
 
-      grown : (p m : ℕ) → Step p m → T (has (branch s x e) p) → T (has (branch s x e) m)
+      grown : (p m : ℕ) → ChildStep p m → T (has (branch s x e) p) → T (has (branch s x e) m)
       grown p m t h = branch-step (nOf s) e p m en (omega arith) h t
 
       member-in : {m : ℕ} → Within s e m → m < nOf s → T (has x m) → T (has (branch s x e) m)

@@ -25,14 +25,14 @@ use Rattle.meaning.proofs.TableFaithful.{table-faithful}
 use Rattle.meaning.proofs.TableSound.{table-ok}
 
 -- where nothing is refused, neither the sheet nor the walk is, and the table slice is long enough
-pub record Accepted (s : List ℕ) (o : Walk) (m : ℕ) : Type 0 where
+pub record CompileAccepts (s : List ℕ) (o : Walk) (m : ℕ) : Type 0 where
   pub passes : sheetRefusal s ≡ 0
   pub walked : o .refusal ≡ 0
   pub room : length (tableWords s (o .listed)) ≤ m
 
-pub accepted : (s : List ℕ) (o : Walk) (m : ℕ) → compileRefusal s o m ≡ 0 → Accepted s o m
+pub compile-accepts : (s : List ℕ) (o : Walk) (m : ℕ) → compileRefusal s o m ≡ 0 → CompileAccepts s o m
 unfolding compileRefusal
-accepted s o m h =
+compile-accepts s o m h =
     let short = ltb m (length (tableWords s (o .listed))) in
     let a = none-met (sheetRefusal s) (o .refusal ∷ refusedIf short 10 ∷ []) h in
     let b = none-met (o .refusal) (refusedIf short 10 ∷ []) (a .1) in
@@ -57,12 +57,12 @@ module _ (s work table : List ℕ) where
       go : (b : Bool) → eqb (compileRefusal s o (length table)) 0 ≡ b → length (cond b (tableWords s listed) []) ≤ length table
       go false e = zero-le
       go true e =
-          let a = accepted s o (length table) (eqb-true (compileRefusal s o (length table)) 0 e) in
+          let a = compile-accepts s o (length table) (eqb-true (compileRefusal s o (length table)) 0 e) in
           subst (λ (c : Bool). length (tableWords s (cond c (o .listed) [])) ≤ length table) (sym (eq-eqb (sheetRefusal s) 0 (a .passes))) (a .room)
 
   pub compiled-passes : compile s work table .refusal ≡ 0 → sheetRefusal s ≡ 0
   unfolding compile
-  compiled-passes h = accepted s (walk s (length work)) (length table) h .passes
+  compiled-passes h = compile-accepts s (walk s (length work)) (length table) h .passes
 
   -- the words that it leaves are the table of the walk
   compiled-words : compile s work table .refusal ≡ 0
@@ -71,19 +71,19 @@ module _ (s work table : List ℕ) where
   compiled-words h =
       let o = walk s (length work) in
       let words = tableWords s (o .listed) in
-      rw (eq-eqb (compileRefusal s o (length table)) 0 h, eq-eqb (sheetRefusal s) 0 (accepted s o (length table) h .passes)) (take-append-seam words (drop (length words) table))
+      rw (eq-eqb (compileRefusal s o (length table)) 0 h, eq-eqb (sheetRefusal s) 0 (compile-accepts s o (length table) h .passes)) (take-append-seam words (drop (length words) table))
 
 -- by the one fact that a tick leaves a consistent set
 pub compiled-faithful-from : ((s : List ℕ) → Sound s → (y d i : ℕ) → (y ≡ 0) ⊎ T (consistent s y) → T (consistent s (tick s y d i .sets .modes)))
     → CompiledFaithful
 unfolding CompiledFaithful
 compiled-faithful-from keeps s work table h =
-    subst (λ (w : List ℕ). T (tableOk w) × T (faithful s w)) (sym (compiled-words s work table h)) (go (accepted s o (length table) (unfold compile in h)))
+    subst (λ (w : List ℕ). T (tableOk w) × T (faithful s w)) (sym (compiled-words s work table h)) (go (compile-accepts s o (length table) (unfold compile in h)))
   where
     o : Walk
     o = walk s (length work)
 
-    go : Accepted s o (length table) → T (tableOk (tableWords s (o .listed))) × T (faithful s (tableWords s (o .listed)))
+    go : CompileAccepts s o (length table) → T (tableOk (tableWords s (o .listed))) × T (faithful s (tableWords s (o .listed)))
     go a =
         let sd = sound s (a .passes) in
         let r = walk-closed s (keeps s sd) (length work) (a .walked) in

@@ -27,7 +27,7 @@ use Rattle.meaning.specs.Tick.{Tick, begin, chosen, roundsFrom, tick}
 use Rattle.meaning.proofs.SheetLaws.{Sound, n-le}
 use Rattle.reaction.proofs.PlanLaws.{sourcesIn-lt, has-sourcesIn}
 use Rattle.reaction.specs.Plan.{exitsPart, entersPart, conflictsPart, losesPart, gainsPart, sourcesIn, conflictsOf, yieldersOf, Planned}
-use Rattle.reaction.specs.Rounds.{setsOf, tickOf, Derived, exitsOf, MovesOf, addMove, afterMoves, begun, Before}
+use Rattle.reaction.specs.Rounds.{setsOf, tickOf, Derived, exitsOf, MovesOf, addMove, afterMoves, tickBegun, Before}
 use Rattle.reaction.specs.declared.tick.Sets.{Sets}
 use Rattle.reaction.specs.declared.tick.Ticked.{Ticked}
 use Rattle.reaction.specs.declared.tick.Moves.{Moves}
@@ -373,21 +373,21 @@ module _ {s : List ℕ} {start : Sets} {i : ℕ} {z : Sets} {r es : ℕ} (h : Ro
 -- ---- the sets before the first round
 
 module _ (s : List ℕ) where
-  pub begun-derived : {modes live due : ℕ} {z : Sets} → Before s modes live due → z ≡ begun modes live due → Derived s z
+  pub tickBegun-derived : {modes live due : ℕ} {z : Sets} → Before s modes live due → z ≡ tickBegun modes live due → Derived s z
   unfolding isDue
-  begun-derived {modes} {live} {due} b e =
+  tickBegun-derived {modes} {live} {due} b e =
       subst (Derived s) (sym e)
       (record {
         live = b .sources;
-        due = setOf-ext (tOf s) (isDue s due (setsOf (begun modes live due))) (b .small) (λ t l. sym (rw (has-none (source s t)) (and-true (has due t))));
+        due = setOf-ext (tOf s) (isDue s due (setsOf (tickBegun modes live due))) (b .small) (λ t l. sym (rw (has-none (source s t)) (and-true (has due t))));
         timing = b .timing;
       })
 
   -- a tick that is not the first
-  pub tick-begun : {modes live due : ℕ} {z : Sets} {t : Tick} (i : ℕ) → (modes ≡ 0 → ⊥) → z ≡ begun modes live due
+  pub tick-tickBegun : {modes live due : ℕ} {z : Sets} {t : Tick} (i : ℕ) → (modes ≡ 0 → ⊥) → z ≡ tickBegun modes live due
       → t ≡ roundsFrom s (suc (tOf s)) (z .due) i (setsOf z) 0 → t ≡ tick s modes due i
   unfolding tick begin
-  tick-begun {modes} {live} {due} i n e g = g ∙ rw (ne-eqb modes 0 n, e)
+  tick-tickBegun {modes} {live} {due} i n e g = g ∙ rw (ne-eqb modes 0 n, e)
 
   -- the first tick
   pub tick-first : {modes due : ℕ} (z : Sets) {t : Tick} (i : ℕ) → modes ≡ 0 → due ≡ 0 → setsOf z ≡ begin s 0 → z .due ≡ 0

@@ -65,8 +65,8 @@ afterMoves z m es =
     }
 
 -- the sets before the first round of a tick that is not the first
-abbrev pub begun : ℕ → ℕ → ℕ → Sets
-begun modes live due =
+abbrev pub tickBegun : ℕ → ℕ → ℕ → Sets
+tickBegun modes live due =
     record { modes = modes; entered = 0; exited = 0; active = modes; taken = 0; live = live; due = due }
 
 -- what a tick begins with: the transitions whose source is in the mode set, and due timers among the transitions; none is due at

@@ -11,7 +11,7 @@ ghost use Rattle.meaning.specs.Reaction.{isDelay, triggered, eligible};
 ghost use Rattle.meaning.specs.Tick.{begin, roundsFrom, tick, fiveWords};
 ghost use Rattle.reaction.specs.Plan.{Planned, sourcesIn, yieldersOf};
 ghost use Rattle.reaction.specs.Facts.{alternativeBy};
-ghost use Rattle.reaction.specs.Rounds.{setsOf, tickOf, Derived, MovesOf, addMove, afterMoves, begun, Before};
+ghost use Rattle.reaction.specs.Rounds.{setsOf, tickOf, Derived, MovesOf, addMove, afterMoves, tickBegun, Before};
 use super::plan::CONFLICTS;
 use super::plan::ENTERS;
 use super::plan::EXITS;
@@ -209,7 +209,7 @@ fn rounds(sheet: &[u32], plan: &Plan, start: Sets, input: u32) -> Ticked
 
 // The sets before the first round, from a mode set other than power-on's, its transitions and its due timers.
 fn begin(modes: u32, live: u64, due: u64) -> Sets
-    ensures { λ r. ⌜ r ≡ begun modes live due ⌝ }
+    ensures { λ r. ⌜ r ≡ tickBegun modes live due ⌝ }
 {
     Sets {
         modes,

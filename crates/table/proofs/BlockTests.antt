@@ -30,14 +30,14 @@ module _ (w : List ℕ) (b : ℕ) where
   abbrev pub nextTest : ℕ → Bool
   nextTest c = ltb 0 (cellWord w b c 0) && ltb (cellWord w b c 0) (bIn w)
 
-pub record Block (w : List ℕ) (b : ℕ) : Type 0 where
+pub record BlockSound (w : List ℕ) (b : ℕ) : Type 0 where
   pub mask : T (maskTest w b)
   pub few : size 64 (timersIn w b) ≤ 6
   pub timers : T (timersTest w b)
   pub length-is : lengthIn w b ≡ 3 + 6 * cellsIn w b
   pub next : T (every (cellsIn w b) (nextTest w b))
 
-pub block-of : (w : List ℕ) (b : ℕ) → T (blockOk w b) → Block w b
+pub block-of : (w : List ℕ) (b : ℕ) → T (blockOk w b) → BlockSound w b
 unfolding blockOk
 block-of w b h =
     let r = allOf-e _ h in

@@ -13,35 +13,35 @@ use Rattle.sets.proofs.Tests.{and-l, and-r, or-e}
 use Rattle.sets.proofs.Facts.{every-e, everyIn-e}
 use Rattle.meaning.specs.Table.{wordIn, kIn, tIn, bIn, sourceIn, delayIn, offsetIn, lengthIn, timersIn, cellsIn, timerOk, blockOk, tableOk}
 use Rattle.meaning.proofs.LayoutLaws.{block-sound}
-use Rattle.table.specs.Parts.{headOk, pairsOk}
-use Rattle.table.proofs.Places.{Head, head-of, block-room}
-use Rattle.table.proofs.BlockTests.{Block, block-of}
+use Rattle.table.specs.Parts.{tableHeadOk, tablePairsOk}
+use Rattle.table.proofs.Places.{TableHead, head-of, block-room}
+use Rattle.table.proofs.BlockTests.{BlockSound, block-of}
 use Rattle.table.proofs.TableParts.{table-is}
 
 module _ (w : List ℕ) (h : T (tableOk w)) where
   -- ---- the parts
 
-  parts : T (headOk w && every (tIn w) (timerOk w) && pairsOk w && every (bIn w) (blockOk w))
+  parts : T (tableHeadOk w && every (tIn w) (timerOk w) && tablePairsOk w && every (bIn w) (blockOk w))
   parts = subst T (table-is w) h
 
-  first-three : T (headOk w && every (tIn w) (timerOk w) && pairsOk w)
-  first-three = and-l (headOk w && every (tIn w) (timerOk w) && pairsOk w) (every (bIn w) (blockOk w)) parts
+  first-three : T (tableHeadOk w && every (tIn w) (timerOk w) && tablePairsOk w)
+  first-three = and-l (tableHeadOk w && every (tIn w) (timerOk w) && tablePairsOk w) (every (bIn w) (blockOk w)) parts
 
-  first-two : T (headOk w && every (tIn w) (timerOk w))
-  first-two = and-l (headOk w && every (tIn w) (timerOk w)) (pairsOk w) first-three
+  first-two : T (tableHeadOk w && every (tIn w) (timerOk w))
+  first-two = and-l (tableHeadOk w && every (tIn w) (timerOk w)) (tablePairsOk w) first-three
 
-  pub head-sound : T (headOk w)
-  head-sound = and-l (headOk w) (every (tIn w) (timerOk w)) first-two
+  pub head-sound : T (tableHeadOk w)
+  head-sound = and-l (tableHeadOk w) (every (tIn w) (timerOk w)) first-two
 
-  pub pairs-sound : T (pairsOk w)
-  pairs-sound = and-r (headOk w && every (tIn w) (timerOk w)) (pairsOk w) first-three
+  pub pairs-sound : T (tablePairsOk w)
+  pairs-sound = and-r (tableHeadOk w && every (tIn w) (timerOk w)) (tablePairsOk w) first-three
 
   pub timer-sound : (t : ℕ) → t < tIn w → T (timerOk w t)
-  timer-sound = every-e (tIn w) (timerOk w) (and-r (headOk w) (every (tIn w) (timerOk w)) first-two)
+  timer-sound = every-e (tIn w) (timerOk w) (and-r (tableHeadOk w) (every (tIn w) (timerOk w)) first-two)
 
   -- ---- the head
 
-  head : Head w
+  head : TableHead w
   head = head-of w head-sound
 
   pub k-le : kIn w ≤ 6
@@ -73,7 +73,7 @@ module _ (w : List ℕ) (h : T (tableOk w)) where
   -- ---- any block
 
   module _ (b : ℕ) (l : b < bIn w) where
-    block : Block w b
+    block : BlockSound w b
     block = block-of w b (block-sound w h b l)
 
     pub timers-few : size 64 (timersIn w b) ≤ 6

@@ -15,11 +15,11 @@ use Rattle.sets.proofs.Facts.{every-e}
 use Rattle.meaning.specs.Lists.{allOf}
 use Rattle.meaning.specs.Table.{wordIn, kIn, tIn, bIn, offsetIn, lengthIn, endBeforeIn}
 use Rattle.meaning.proofs.ListLaws.{allOf-e, steps-le}
-use Rattle.table.specs.Parts.{headOk, pairsOk}
+use Rattle.table.specs.Parts.{tableHeadOk, tablePairsOk}
 
 -- ---- the head
 
-pub record Head (w : List ℕ) : Type 0 where
+pub record TableHead (w : List ℕ) : Type 0 where
   pub four : 4 ≤ length w
   pub one : wordIn w 0 ≡ 1
   pub k-le : kIn w ≤ 6
@@ -28,8 +28,8 @@ pub record Head (w : List ℕ) : Type 0 where
   pub b-le : bIn w ≤ 4096
   pub room : 4 + tIn w + 2 * bIn w ≤ length w
 
-pub head-of : (w : List ℕ) → T (headOk w) → Head w
-unfolding headOk
+pub head-of : (w : List ℕ) → T (tableHeadOk w) → TableHead w
+unfolding tableHeadOk
 head-of w h =
     let r = allOf-e _ h in
     record {
@@ -44,8 +44,8 @@ head-of w h =
 
 -- where all its tests but the last have passed
 pub head-is : (w : List ℕ) → 4 ≤ length w → wordIn w 0 ≡ 1 → kIn w ≤ 6 → tIn w ≤ 64 → 1 ≤ bIn w → bIn w ≤ 4096
-    → headOk w ≡ leb (4 + tIn w + 2 * bIn w) (length w)
-unfolding headOk allOf
+    → tableHeadOk w ≡ leb (4 + tIn w + 2 * bIn w) (length w)
+unfolding tableHeadOk allOf
 head-is w l o k t p b =
     rw (le-leb 4 (length w) l, eq-eqb (wordIn w 0) 1 o, le-leb (kIn w) 6 k, le-leb (tIn w) 64 t, le-leb 1 (bIn w) p, le-leb (bIn w) 4096 b)
     (and-true (leb (4 + tIn w + 2 * bIn w) (length w)))
@@ -62,15 +62,15 @@ end-after w b = rw add-one
 
 -- ---- the pairs: the blocks follow one another, so that each lies within the table
 
-module _ (w : List ℕ) (h : T (pairsOk w)) where
+module _ (w : List ℕ) (h : T (tablePairsOk w)) where
   pub offset-is : (b : ℕ) → b < bIn w → offsetIn w b ≡ endBeforeIn w b
-  unfolding pairsOk
+  unfolding tablePairsOk
   offset-is b l =
       eqb→eq (offsetIn w b) (endBeforeIn w b)
       (every-e (bIn w) (λ i. eqb (offsetIn w i) (endBeforeIn w i)) (and-l (every (bIn w) (λ i. eqb (offsetIn w i) (endBeforeIn w i))) (eqb (endBeforeIn w (bIn w)) (length w)) h) b l)
 
   last-end : endBeforeIn w (bIn w) ≡ length w
-  unfolding pairsOk
+  unfolding tablePairsOk
   last-end = eqb→eq (endBeforeIn w (bIn w)) (length w) (and-r (every (bIn w) (λ i. eqb (offsetIn w i) (endBeforeIn w i))) (eqb (endBeforeIn w (bIn w)) (length w)) h)
 
   end-next : (b : ℕ) → b < bIn w → endBeforeIn w b ≤ endBeforeIn w (suc b)

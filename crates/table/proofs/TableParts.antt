@@ -6,8 +6,8 @@ use Prim.Native.Nat.{ℕ}
 use Rattle.sets.specs.Sets.{every}
 use Rattle.meaning.specs.Lists.{allOf}
 use Rattle.meaning.specs.Table.{tIn, bIn, timerOk, blockOk, tableOk}
-use Rattle.table.specs.Parts.{headOk, pairsOk}
+use Rattle.table.specs.Parts.{tableHeadOk, tablePairsOk}
 
-pub table-is : (w : List ℕ) → tableOk w ≡ (headOk w && every (tIn w) (timerOk w) && pairsOk w && every (bIn w) (blockOk w))
-unfolding tableOk headOk pairsOk allOf
+pub table-is : (w : List ℕ) → tableOk w ≡ (tableHeadOk w && every (tIn w) (timerOk w) && tablePairsOk w && every (bIn w) (blockOk w))
+unfolding tableOk tableHeadOk tablePairsOk allOf
 table-is w = simp (and-assoc, and-true)

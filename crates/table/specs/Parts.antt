@@ -9,8 +9,8 @@ use Rattle.meaning.specs.Lists.{allOf}
 use Rattle.meaning.specs.Table.{wordIn, kIn, tIn, bIn, delayIn, offsetIn, endBeforeIn}
 
 -- word 0, k, T and B, and as many words as timer words and pairs take
-unfoldable pub headOk : List ℕ → Bool
-headOk w =
+unfoldable pub tableHeadOk : List ℕ → Bool
+tableHeadOk w =
     allOf
     (leb 4 (length w)
     ∷ eqb (wordIn w 0) 1
@@ -22,8 +22,8 @@ headOk w =
     ∷ [])
 
 -- each block begins where the one before ends, and the last ends the table
-unfoldable pub pairsOk : List ℕ → Bool
-pairsOk w = every (bIn w) (λ b. eqb (offsetIn w b) (endBeforeIn w b)) && eqb (endBeforeIn w (bIn w)) (length w)
+unfoldable pub tablePairsOk : List ℕ → Bool
+tablePairsOk w = every (bIn w) (λ b. eqb (offsetIn w b) (endBeforeIn w b)) && eqb (endBeforeIn w (bIn w)) (length w)
 
 -- the transitions with a delay
 unfoldable pub delayedIn : List ℕ → ℕ

@@ -6,7 +6,7 @@ ghost use lib.Dec.{T, eqb};
 ghost use lib.ListN.{length};
 ghost use Rattle.sets.specs.Sets.{every};
 ghost use Rattle.meaning.specs.Table.{bIn, wordIn, blockOk};
-ghost use Rattle.table.specs.Parts.{headOk, pairsOk, delayedIn, nextOk};
+ghost use Rattle.table.specs.Parts.{tableHeadOk, tablePairsOk, delayedIn, nextOk};
 use super::words::block_count;
 use super::words::block_length;
 use super::words::cell_count;
@@ -19,7 +19,7 @@ use sets::transitions;
 
 // The transitions with a delay.
 pub fn delayed(table: &[u32]) -> u64
-    requires { ⌜ T (headOk (now table)) ⌝ }
+    requires { ⌜ T (tableHeadOk (now table)) ⌝ }
     ensures { λ r. ⌜ r ≡ delayedIn (now (table .entry)) ⌝ }
 {
     let count = transition_count(table);
@@ -62,7 +62,7 @@ fn mask_ok(table: &[u32], b: usize, offset: usize, timers: u64) -> bool
 
 // Block b is as it must be; all blocks stand in their places.
 fn block_ok(table: &[u32], with_delay: u64, b: usize) -> bool
-    requires { ⌜ T (headOk (now table)) × T (pairsOk (now table)) × («with_delay» ≡ delayedIn (now table)) × (b < bIn (now table)) ⌝ }
+    requires { ⌜ T (tableHeadOk (now table)) × T (tablePairsOk (now table)) × («with_delay» ≡ delayedIn (now table)) × (b < bIn (now table)) ⌝ }
     ensures { λ r. ⌜ r ≡ blockOk (now (table .entry)) b ⌝ }
 {
     let at = offset(table, b);
@@ -84,7 +84,7 @@ fn block_ok(table: &[u32], with_delay: u64, b: usize) -> bool
 
 // Every block is as it must be; all blocks stand in their places.
 pub fn blocks_ok(table: &[u32]) -> bool
-    requires { ⌜ T (headOk (now table)) × T (pairsOk (now table)) ⌝ }
+    requires { ⌜ T (tableHeadOk (now table)) × T (tablePairsOk (now table)) ⌝ }
     ensures { λ r. ⌜ r ≡ every (bIn (now (table .entry))) (blockOk (now (table .entry))) ⌝ }
 {
     let count = block_count(table);

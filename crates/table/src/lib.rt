@@ -5,7 +5,7 @@ ghost use lib.Dec.{T, eqb, ltb};
 ghost use Prim.Native.Nat.{_/_, _%_};
 ghost use Rattle.sets.specs.Sets.{every};
 ghost use Rattle.meaning.specs.Table.{tIn, timerOk, tableOk};
-ghost use Rattle.table.specs.Parts.{headOk, pairsOk};
+ghost use Rattle.table.specs.Parts.{tableHeadOk, tablePairsOk};
 
 mod blocks;
 pub mod words;
@@ -17,7 +17,7 @@ use words::transition_count;
 
 // Word 0, k, T and B are in range, and the timer words and the pairs are there.
 fn head_ok(table: &[u32]) -> bool
-    ensures { λ r. ⌜ r ≡ headOk (now (table .entry)) ⌝ }
+    ensures { λ r. ⌜ r ≡ tableHeadOk (now (table .entry)) ⌝ }
 {
     if table.len() < 4 || table[0] != 1 {
         return false;
@@ -36,7 +36,7 @@ fn timer_ok(word: u32) -> bool
 }
 
 fn timers_ok(table: &[u32]) -> bool
-    requires { ⌜ T (headOk (now table)) ⌝ }
+    requires { ⌜ T (tableHeadOk (now table)) ⌝ }
     ensures { λ r. ⌜ r ≡ every (tIn (now (table .entry))) (timerOk (now (table .entry))) ⌝ }
 {
     let count = transition_count(table);
@@ -52,8 +52,8 @@ fn timers_ok(table: &[u32]) -> bool
 
 // Each block begins where the one before ends, and the last ends the table.
 fn pairs_ok(table: &[u32]) -> bool
-    requires { ⌜ T (headOk (now table)) ⌝ }
-    ensures { λ r. ⌜ r ≡ pairsOk (now (table .entry)) ⌝ }
+    requires { ⌜ T (tableHeadOk (now table)) ⌝ }
+    ensures { λ r. ⌜ r ≡ tablePairsOk (now (table .entry)) ⌝ }
 {
     let count = block_count(table);
     let mut end = 4 + transition_count(table) + 2 * count;

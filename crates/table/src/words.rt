@@ -4,26 +4,26 @@ ghost use Prim.Native.Nat.{_+_, _*_, _^_, _<_, _≤_};
 ghost use lib.Dec.{T};
 ghost use lib.ListN.{length};
 ghost use Rattle.meaning.specs.Table.{wordIn, kIn, tIn, bIn, sourceIn, delayIn, offsetIn, lengthIn};
-ghost use Rattle.table.specs.Parts.{headOk};
+ghost use Rattle.table.specs.Parts.{tableHeadOk};
 use sets::transitions;
 
 // k, T and B.
 pub fn event_count(table: &[u32]) -> u32
-    requires { ⌜ T (headOk (now table)) ⌝ }
+    requires { ⌜ T (tableHeadOk (now table)) ⌝ }
     ensures { λ r. ⌜ r ≡ kIn (now (table .entry)) ⌝ }
 {
     table[1]
 }
 
 pub fn transition_count(table: &[u32]) -> usize
-    requires { ⌜ T (headOk (now table)) ⌝ }
+    requires { ⌜ T (tableHeadOk (now table)) ⌝ }
     ensures { λ r. ⌜ r ≡ tIn (now (table .entry)) ⌝ }
 {
     table[2] as usize
 }
 
 pub fn block_count(table: &[u32]) -> usize
-    requires { ⌜ T (headOk (now table)) ⌝ }
+    requires { ⌜ T (tableHeadOk (now table)) ⌝ }
     ensures { λ r. ⌜ r ≡ bIn (now (table .entry)) ⌝ }
 {
     table[3] as usize
@@ -31,14 +31,14 @@ pub fn block_count(table: &[u32]) -> usize
 
 // A timer's source and delay.
 pub fn timer_source(table: &[u32], t: usize) -> usize
-    requires { ⌜ T (headOk (now table)) × (t < tIn (now table)) ⌝ }
+    requires { ⌜ T (tableHeadOk (now table)) × (t < tIn (now table)) ⌝ }
     ensures { λ r. ⌜ r ≡ sourceIn (now (table .entry)) t ⌝ }
 {
     (table[4 + t] / 65536) as usize
 }
 
 pub fn timer_delay(table: &[u32], t: usize) -> u64
-    requires { ⌜ T (headOk (now table)) × (t < tIn (now table)) ⌝ }
+    requires { ⌜ T (tableHeadOk (now table)) × (t < tIn (now table)) ⌝ }
     ensures { λ r. ⌜ r ≡ delayIn (now (table .entry)) t ⌝ }
 {
     (table[4 + t] % 65536) as u64
@@ -46,14 +46,14 @@ pub fn timer_delay(table: &[u32], t: usize) -> u64
 
 // The offset and the length of block b.
 pub fn offset(table: &[u32], b: usize) -> usize
-    requires { ⌜ T (headOk (now table)) × (b < bIn (now table)) ⌝ }
+    requires { ⌜ T (tableHeadOk (now table)) × (b < bIn (now table)) ⌝ }
     ensures { λ r. ⌜ r ≡ offsetIn (now (table .entry)) b ⌝ }
 {
     table[4 + transition_count(table) + 2 * b] as usize
 }
 
 pub fn block_length(table: &[u32], b: usize) -> usize
-    requires { ⌜ T (headOk (now table)) × (b < bIn (now table)) ⌝ }
+    requires { ⌜ T (tableHeadOk (now table)) × (b < bIn (now table)) ⌝ }
     ensures { λ r. ⌜ r ≡ lengthIn (now (table .entry)) b ⌝ }
 {
     table[5 + transition_count(table) + 2 * b] as usize

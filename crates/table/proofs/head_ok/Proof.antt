@@ -6,7 +6,7 @@ use mathlib.Core.Path.{sym}
 use borrow.Author.Tests.{ltb-true, ltb-false, eqb-true, eqb-false, not-true, not-false}
 use Rattle.sets.proofs.Tests.{is-false}
 use Rattle.meaning.specs.Table.{wordIn, kIn, tIn, bIn}
-use Rattle.table.specs.Parts.{headOk}
+use Rattle.table.specs.Parts.{tableHeadOk}
 use Rattle.table.proofs.Places.{head-of, head-is}
 use Rattle.table.proofs.head_ok.Statement.{statement}
 use Rattle.table.proofs.head_ok.Tie as tie
@@ -18,7 +18,7 @@ returns : tie.Need-returns
 unfolding wordIn
 returns c =
     let w = c .before .args .table .now in
-    sym (is-false (headOk w) (λ h.
+    sym (is-false (tableHeadOk w) (λ h.
     ⊎-elim
     (λ v. omega (arith, head-of w h))
     (λ v. eqb-false _ _ (not-true _ (v .2 .taken)) (head-of w h .one))
@@ -40,7 +40,7 @@ returns-2 : tie.Need-returns-2
 unfolding kIn tIn bIn wordIn
 returns-2 c =
     let w = c .before .before .before .before .before .args .table .now in
-    sym (is-false (headOk w) (λ h.
+    sym (is-false (tableHeadOk w) (λ h.
     let r = head-of w h in
     ⊎-elim
     (λ v. omega arith)

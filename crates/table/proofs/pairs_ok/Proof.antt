@@ -11,7 +11,7 @@ use lib.Dec.{eqb}
 use Rattle.sets.specs.Sets.{every}
 use Rattle.sets.proofs.Loops.{every-start, every-next, every-fails, every-done}
 use Rattle.meaning.specs.Table.{wordIn, tIn, bIn, offsetIn, lengthIn, endBeforeIn}
-use Rattle.table.specs.Parts.{pairsOk}
+use Rattle.table.specs.Parts.{tablePairsOk}
 use Rattle.table.proofs.Places.{head-of, end-first, end-after}
 use Rattle.table.proofs.pairs_ok.Statement.{statement}
 use Rattle.table.proofs.pairs_ok.Tie as tie
@@ -51,7 +51,7 @@ offset-requires : tie.Need-offset-requires Inv-loop μ-loop
 offset-requires c κs = search needs
 
 returns : tie.Need-returns Inv-loop μ-loop
-unfolding pairsOk
+unfolding tablePairsOk
 returns c =
     let l = c .before .before .before .loop in
     let w = c .before .before .before .before .before .before .before .args .table .now in
@@ -86,7 +86,7 @@ loop-again c =
     )
 
 returns-2 : tie.Need-returns-2 Inv-loop μ-loop
-unfolding pairsOk
+unfolding tablePairsOk
 returns-2 c =
     let l = c .before .loop in
     let w = c .before .before .before .before .before .args .table .now in

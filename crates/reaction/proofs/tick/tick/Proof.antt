@@ -1,6 +1,6 @@
 -- `reaction::tick::tick` meets its contract: its rounds from the completed root, or from the mode set at hand. Assumes nothing.
 use borrow.Author.Needs.{needs}
-use Rattle.reaction.proofs.RoundLaws.{begun-derived, tick-begun, tick-first}
+use Rattle.reaction.proofs.RoundLaws.{tickBegun-derived, tick-tickBegun, tick-first}
 use Rattle.reaction.proofs.tick.tick.Statement.{statement}
 use Rattle.reaction.proofs.tick.tick.Tie as tie
 
@@ -24,13 +24,13 @@ begin-requires c κs = search needs
 rounds-requires-2 : tie.Need-rounds-requires-2
 rounds-requires-2 c κs =
     let b = c .before .before .before in
-    (b .pre .0, begun-derived (b .args .sheet .now) (b .pre .1) (c .begin .ensures), b .pre .2)
+    (b .pre .0, tickBegun-derived (b .args .sheet .now) (b .pre .1) (c .begin .ensures), b .pre .2)
 
 returns-2 : tie.Need-returns-2
 returns-2 c =
     let k = c .before in
     let a = k .before .before .before .args in
-    (tick-begun (a .sheet .now) (a .input) (k .before .if1 .left) (k .begin .ensures) (c .rounds2 .ensures .0), c .rounds2 .ensures .1)
+    (tick-tickBegun (a .sheet .now) (a .input) (k .before .if1 .left) (k .begin .ensures) (c .rounds2 .ensures .0), c .rounds2 .ensures .1)
 
 pub tick-spec : {M : Type 1} → statement M
 tick-spec = tie.close (tie.spec power-on-requires rounds-requires returns begin-requires rounds-requires-2 returns-2)
