@@ -16,12 +16,9 @@ use Rattle.recorder.proofs.TableStateLaws.{state-outside, state-inside}
 use Rattle.recorder.proofs.state.state_ok.Statement.{statement}
 use Rattle.recorder.proofs.state.state_ok.Tie as tie
 
--- the function's entry, from where the blocks are counted; that place from where the block's offset is read; that place at the end
+-- the function's entry, from where the blocks are counted; the block's offset, from the end
 abbrev entry : tie.After-block-count → tie.Start
 entry c = c .before .before .before
-
-abbrev counted : tie.After-offset → tie.Else1
-counted c = c .before
 
 abbrev place : tie.After-readings-ok → tie.After-offset
 place c = c .before .before .before .before
@@ -50,8 +47,8 @@ offset-requires c κs = (head-sound _ (sound (entry (c .before))), inside c)
 timers-at-requires : tie.Need-timers-at-requires
 timers-at-requires c κs =
     let at = c .before in
-    let s = entry (counted at .before) in
-    omega (arith, at .offset .ensures, header-inside (s .args .table .now) (sound s) (s .args .state .at) (inside (counted at)))
+    let s = entry (at .before .before) in
+    omega (arith, at .offset .ensures, header-inside (s .args .table .now) (sound s) (s .args .state .at) (inside (at .before)))
 
 readings-ok-requires : tie.Need-readings-ok-requires
 readings-ok-requires c κs = search needs
@@ -59,13 +56,13 @@ readings-ok-requires c κs = search needs
 returns-2 : tie.Need-returns-2
 returns-2 c =
     let at = place c in
-    let s = entry (counted at .before) in
+    let s = entry (at .before .before) in
     let w = s .args .table .now in
     let q = stateOf (s .args .state) in
     c .readings-ok .ensures
     ∙ ap₂ (λ (y : ℕ) (d : List ℕ). readingsOk y (λ t. getD d t 0) (q .readings))
     (c .before .before .timers-at .ensures ∙ timers-are w (q .at) (at .offset .ensures)) (s .pre .1)
-    ∙ state-inside w (sound s) q (inside (counted at))
+    ∙ state-inside w (sound s) q (inside (at .before))
 
 pub state-ok-spec : {M : Type 1} → statement M
 state-ok-spec =
