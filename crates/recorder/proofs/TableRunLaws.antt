@@ -25,6 +25,7 @@ use Rattle.meaning.proofs.TableLaws.{cell-lt}
 use Rattle.meaning.proofs.LayoutLaws.{next-lt}
 use Rattle.table.proofs.LayoutFacts.{timers-few, timer-lt, delay-pos, delay-lt, cell-inside}
 use Rattle.recorder.specs.Timers.{timerDelayIn, timersFrom}
+use Rattle.recorder.specs.Runs.{fiveIn}
 use Rattle.recorder.proofs.RowStoreLaws.{row-at}
 use Rattle.recorder.proofs.TimerLaws.{delay-at}
 use Rattle.recorder.proofs.TableStateLaws.{admitted}
@@ -213,9 +214,9 @@ module _ {w inputs out₀ : List ℕ} {q₀ : State} {out ends : List ℕ} {b i 
   unfolding cellWord wordIn
   entered-is = ap (λ (x : ℕ). getD w (x + 1) 0) place-is
 
-  five-is : rowFrom 1 5 (λ j. wordIn w (cell + j)) ≡ rowFrom 1 5 (cellWord w b c)
-  unfolding cellWord
-  five-is = ap (λ (x : ℕ). rowFrom 1 5 (λ j. wordIn w (x + j))) place-is
+  five-is : fiveIn w cell ≡ rowFrom 1 5 (cellWord w b c)
+  unfolding rowFrom cellWord wordIn
+  five-is = ap (λ (x : ℕ). fiveIn w x) place-is
 
   low : nextBlock < bIn w
   low = next-lt w h b (k .low) c there
@@ -247,7 +248,7 @@ module _ {w inputs out₀ : List ℕ} {q₀ : State} {out ends : List ℕ} {b i 
   module _ {j : ℕ} {delays from : List ℕ} {timed : ℕ} (v : Known w j delays from timed) where
     -- a tick that stays in its block, with no timer due and no source entered, moves no deadline
     pub turn-stays : getD w cell 0 ≡ b → d ≡ 0 → meet (getD w (cell + 1) 0) timed ≡ 0 → {out′ ends′ : List ℕ} {b′ : ℕ}
-        → out′ ≡ over out (5 * i) (rowFrom 1 5 (λ j. wordIn w (cell + j))) → ends′ ≡ ends → b′ ≡ b
+        → out′ ≡ over out (5 * i) (fiveIn w cell) → ends′ ≡ ends → b′ ≡ b
         → ReachedBlock w inputs out₀ q₀ out′ ends′ b′ (i + 1)
     turn-stays g dz ez oe ee be =
         let same : nextBlock ≡ b = sym next-is ∙ g in
@@ -288,7 +289,7 @@ module _ {w inputs out₀ : List ℕ} {q₀ : State} {out ends : List ℕ} {b i 
           ∙ reached-refused (kIn w) (tableStep w) inputs out₀ q₀ (k .reached) (p .more) (p .below) (refused (stale-now ∙ g)) (λ z. omega arith)
 
       pub turn-moves : not (eqb (minus (minus later again) (minus timers d)) 0) ≡ false
-          → {out′ ends′ : List ℕ} → out′ ≡ over out (5 * i) (rowFrom 1 5 (λ j. wordIn w (cell + j)))
+          → {out′ ends′ : List ℕ} → out′ ≡ over out (5 * i) (fiveIn w cell)
           → ends′ ≡ rowFrom 0 64 (λ t. cond (has again t) (i + 1 + getD delays t 0) (getD ends t 0))
           → ReachedBlock w inputs out₀ q₀ out′ ends′ number (i + 1)
       turn-moves g {out′} {ends′} oe ee =
