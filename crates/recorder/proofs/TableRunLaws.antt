@@ -25,6 +25,7 @@ use Rattle.meaning.proofs.TableLaws.{cell-lt}
 use Rattle.meaning.proofs.LayoutLaws.{next-lt}
 use Rattle.table.proofs.LayoutFacts.{timers-few, timer-lt, delay-pos, delay-lt, cell-inside}
 use Rattle.recorder.specs.Timers.{timerDelayIn, timersFrom}
+use Rattle.recorder.specs.Runs.{fiveIn}
 use Rattle.recorder.proofs.RowStoreLaws.{row-at}
 use Rattle.recorder.proofs.TimerLaws.{delay-at}
 use Rattle.recorder.proofs.TableStateLaws.{admitted}
@@ -33,6 +34,14 @@ use Rattle.recorder.proofs.RestartLaws.{started-there, none-entered, re
 -- the state after i ticks, in block b
 abbrev pub stateAt : List ℕ → ℕ → List ℕ → ℕ → State
 stateAt w b ends i = stateFrom b (timersIn w b) ends i
+
+-- what a run works out of its table once: how many events it has, the delays, the timers of each source, the sources
+pub record Known (w : List ℕ) (k : ℕ) (delays from : List ℕ) (timed : ℕ) : Type 0 where
+  pub sound : T (tableOk w)
+  pub eventsAre : k ≡ kIn w
+  pub delaysAre : delays ≡ rowFrom 0 64 (timerDelayIn w)
+  pub timersAre : from ≡ rowFrom 0 32 (timersFrom w)
+  pub sourcesAre : timed ≡ setOf 32 (λ m. not (eqb (getD from m 0) 0))
 
 -- ---- input i is reached in block b, by the deadlines ends
 
@@ -46,9 +55,6 @@ pub record ReachedBlock (w inputs out₀ : List ℕ) (q₀ : State) (out ends : 
 
 -- at the start the deadlines are the readings
 module _ (w inputs out : List ℕ) (h : T (tableOk w)) (q : State) (ok : tableStateOk w q ≡ true) where
-  pub start-low : q .at < bIn w
-  start-low = admitted w h q ok .0
-
   module _ {b : ℕ} {ends : List ℕ} (be : b ≡ q .at) (ee : ends ≡ q .readings) (long : length ends ≡ 64) where
     pub start-block : timersIn w b < 2 ^ 64 → 5 * length inputs ≤ length out → ReachedBlock w inputs out (stateAt w b ends 0) out ends b 0
     start-block fits room =
@@ -56,7 +62,7 @@ module _ (w inputs out : List ℕ) (h : T (tableOk w)) (q : State) (ok : tableSt
           reached = reached-start (kIn w) (tableStep w) inputs out (stateAt w b ends 0) room;
           sound = h;
           long = long;
-          low = subst (λ (x : ℕ). x < bIn w) (sym be) start-low;
+          low = subst (λ (x : ℕ). x < bIn w) (sym be) (admitted w h q ok .0);
           fits = fits;
           ahead = rw (be, ee) ahead;
         }
@@ -208,9 +214,9 @@ module _ {w inputs out₀ : List ℕ} {q₀ : State} {out ends : List ℕ} {b i 
   unfolding cellWord wordIn
   entered-is = ap (λ (x : ℕ). getD w (x + 1) 0) place-is
 
-  five-is : rowFrom 1 5 (λ j. wordIn w (cell + j)) ≡ rowFrom 1 5 (cellWord w b c)
-  unfolding cellWord
-  five-is = ap (λ (x : ℕ). rowFrom 1 5 (λ j. wordIn w (x + j))) place-is
+  five-is : fiveIn w cell ≡ rowFrom 1 5 (cellWord w b c)
+  unfolding rowFrom cellWord wordIn
+  five-is = ap (λ (x : ℕ). fiveIn w x) place-is
 
   low : nextBlock < bIn w
   low = next-lt w h b (k .low) c there
@@ -239,11 +245,10 @@ module _ {w inputs out₀ : List ℕ} {q₀ : State} {out ends : List ℕ} {b i 
         ahead = λ t u m. let r = after k c low s ends′ e t u m in (r .0, r .1);
       }
 
-  -- the timers of each source, and the sources
-  module _ {from : List ℕ} {timed : ℕ} (fe : from ≡ rowFrom 0 32 (timersFrom w)) (se : timed ≡ setOf 32 (λ m. not (eqb (getD from m 0) 0))) where
+  module _ {j : ℕ} {delays from : List ℕ} {timed : ℕ} (v : Known w j delays from timed) where
     -- a tick that stays in its block, with no timer due and no source entered, moves no deadline
     pub turn-stays : getD w cell 0 ≡ b → d ≡ 0 → meet (getD w (cell + 1) 0) timed ≡ 0 → {out′ ends′ : List ℕ} {b′ : ℕ}
-        → out′ ≡ over out (5 * i) (rowFrom 1 5 (λ j. wordIn w (cell + j))) → ends′ ≡ ends → b′ ≡ b
+        → out′ ≡ over out (5 * i) (fiveIn w cell) → ends′ ≡ ends → b′ ≡ b
         → ReachedBlock w inputs out₀ q₀ out′ ends′ b′ (i + 1)
     turn-stays g dz ez oe ee be =
         let same : nextBlock ≡ b = sym next-is ∙ g in
@@ -254,7 +259,7 @@ module _ {w inputs out₀ : List ℕ} {q₀ : State} {out ends : List ℕ} {b i 
       where
         none : (t : ℕ) → t < 64 → T (has nextTimers t) → has entered (sourceIn w t) ≡ false
         none t u m =
-            none-entered w h from timed fe se entered t (timer-lt w h nextBlock low t m u) (delay-pos w h nextBlock low t m u) (ap (λ (x : ℕ). meet x timed) (sym entered-is) ∙ ez)
+            none-entered w h from timed (v .timersAre) (v .sourcesAre) entered t (timer-lt w h nextBlock low t m u) (delay-pos w h nextBlock low t m u) (ap (λ (x : ℕ). meet x timed) (sym entered-is) ∙ ez)
 
     -- any other tick: the number and the timers of the next block, and those of them that start again
     module _ {number later again : ℕ} (nu : number ≡ getD w cell 0) (small : later < 2 ^ 64) (le : later ≡ timersIn w number)
@@ -267,10 +272,10 @@ module _ {w inputs out₀ : List ℕ} {q₀ : State} {out ends : List ℕ} {b i 
 
       again-there : (t : ℕ) → t < 64 → T (has nextTimers t) → has again t ≡ has entered (sourceIn w t)
       again-there t u m =
-          let s = setOf 64 (λ v. someIn 32 (meet (getD w (cell + 1) 0) timed) (λ j. has (getD from j 0) v)) in
+          let s = setOf 64 (λ u. someIn 32 (meet (getD w (cell + 1) 0) timed) (λ m. has (getD from m 0) u)) in
           ap (λ (x : ℕ). has x t) ae ∙ has-meet later s t
           ∙ ap (λ (a : Bool). a && has s t) (ap (λ (x : ℕ). has x t) next-timers ∙ is-true (has nextTimers t) m)
-          ∙ started-there w h from timed fe se (getD w (cell + 1) 0) t (timer-lt w h nextBlock low t m u) (delay-pos w h nextBlock low t m u)
+          ∙ started-there w h from timed (v .timersAre) (v .sourcesAre) (getD w (cell + 1) 0) t (timer-lt w h nextBlock low t m u) (delay-pos w h nextBlock low t m u)
           ∙ ap (λ (x : ℕ). has x (sourceIn w t)) entered-is
 
       stale-now : isStale w (stateAfterCell w q c) ≡ not (eqb (minus (minus later again) (minus timers d)) 0)
@@ -284,10 +289,10 @@ module _ {w inputs out₀ : List ℕ} {q₀ : State} {out ends : List ℕ} {b i 
           ∙ reached-refused (kIn w) (tableStep w) inputs out₀ q₀ (k .reached) (p .more) (p .below) (refused (stale-now ∙ g)) (λ z. omega arith)
 
       pub turn-moves : not (eqb (minus (minus later again) (minus timers d)) 0) ≡ false
-          → {delays out′ ends′ : List ℕ} → delays ≡ rowFrom 0 64 (timerDelayIn w) → out′ ≡ over out (5 * i) (rowFrom 1 5 (λ j. wordIn w (cell + j)))
+          → {out′ ends′ : List ℕ} → out′ ≡ over out (5 * i) (fiveIn w cell)
           → ends′ ≡ rowFrom 0 64 (λ t. cond (has again t) (i + 1 + getD delays t 0) (getD ends t 0))
           → ReachedBlock w inputs out₀ q₀ out′ ends′ number (i + 1)
-      turn-moves g {delays} {out′} {ends′} ye oe ee =
+      turn-moves g {out′} {ends′} oe ee =
           rw (oe, five-is, nu, next-is) (turn (stale-now ∙ g) ends′ (ap length ee ∙ rowFrom-length f 0 64) next-fits at)
         where
           f : ℕ → ℕ
@@ -297,7 +302,7 @@ module _ {w inputs out₀ : List ℕ} {q₀ : State} {out ends : List ℕ} {b i 
           at t u m =
               ap (λ (r : List ℕ). getD r t 0) ee ∙ row-at 64 f t u
               ∙ ap₂ (λ (a : Bool) (x : ℕ). cond a (i + 1 + x) (getD ends t 0)) (again-there t u m)
-              (ap (λ (r : List ℕ). getD r t 0) ye ∙ delay-at w t u (timer-lt w h nextBlock low t m u))
+              (ap (λ (r : List ℕ). getD r t 0) (v .delaysAre) ∙ delay-at w t u (timer-lt w h nextBlock low t m u))
 
 -- ---- the whole run: 15, 14, 12, then tick by tick
 

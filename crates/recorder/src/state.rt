@@ -22,6 +22,5 @@ pub fn state_ok(table: &[u32], delays: &[u64; 64], state: State) -> bool
         return false;
     }
     let at = offset(table, b);
-    let readings = state.readings;
-    readings_ok(delays, timers_at(table, at), &readings)
+    readings_ok(delays, timers_at(table, at), &state.readings)
 }

@@ -10,12 +10,12 @@ ghost use Rattle.rows.specs.Over.{fiveOf};
 ghost use Rattle.meaning.specs.Lists.{rowFrom};
 ghost use Rattle.meaning.specs.Refusal.{numberOf};
 ghost use Rattle.meaning.specs.Run.{ran};
-ghost use Rattle.meaning.specs.Table.{wordIn, bIn, tableOk};
+ghost use Rattle.meaning.specs.Table.{bIn, tableOk};
 ghost use Rattle.meaning.specs.TableRun.{tableStateOk, tableTicks, tableRun};
 ghost use Rattle.run.specs.States.{stateOf};
 ghost use Rattle.run.specs.Runs.{endedRun};
 ghost use Rattle.recorder.specs.Timers.{timerDelayIn};
-ghost use Rattle.recorder.specs.Runs.{ranOf, TableBlockOf};
+ghost use Rattle.recorder.specs.Runs.{ranOf, TableBlockOf, fiveIn};
 use super::state::state_ok;
 use super::timers::delays;
 use super::timers::sources;
@@ -73,7 +73,7 @@ fn cell_number(due: u64, k: u32, input: u32) -> usize
 // The five words of the cell that begins at a place.
 fn five_at(table: &[u32], cell: usize) -> Five
     requires { ⌜ cell + 6 ≤ length (now table) ⌝ }
-    ensures { λ r. ⌜ fiveOf r ≡ rowFrom 1 5 (λ j. wordIn (now (table .entry)) (cell + j)) ⌝ }
+    ensures { λ r. ⌜ fiveOf r ≡ fiveIn (now (table .entry)) cell ⌝ }
 {
     Five {
         entered: table[cell + 1],

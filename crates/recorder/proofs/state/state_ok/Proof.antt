@@ -7,7 +7,7 @@ use native.Mathlib.Omega.{arith}
 use lib.Dec.{T}
 use lib.ListN.{getD}
 use Rattle.sets.proofs.Tests.{of-true}
-use Rattle.meaning.specs.Run.{readingsOk}
+use Rattle.meaning.specs.Run.{State, readingsOk}
 use Rattle.meaning.specs.Table.{bIn, tableOk}
 use Rattle.run.specs.States.{stateOf}
 use Rattle.table.proofs.LayoutFacts.{head-sound}
@@ -16,42 +16,42 @@ use Rattle.recorder.proofs.TableStateLaws.{state-outside, state-inside}
 use Rattle.recorder.proofs.state.state_ok.Statement.{statement}
 use Rattle.recorder.proofs.state.state_ok.Tie as tie
 
--- the function's entry, from where the blocks are counted; that place from where the block's offset is read; that place at the end
+-- the function's entry, from where the blocks are counted; the block's offset, from the end
 abbrev entry : tie.After-block-count → tie.Start
-entry c = c .before .before .before
-
-abbrev counted : tie.After-offset → tie.Else1
-counted c = c .before
+entry c = c .before .before
 
 abbrev place : tie.After-readings-ok → tie.After-offset
 place c = c .before .before .before .before
+
+-- the state asked of; its readings are lent, so the parameter goes by its place
+abbrev state : tie.Start → State
+state s = stateOf (s .args .t3)
 
 sound : (s : tie.Start) → T (tableOk (s .args .table .now))
 sound s = of-true (s .pre .0)
 
 -- the block is there
-inside : (c : tie.Else1) → let a = entry (c .before) .args in a .state .at < bIn (a .table .now)
+inside : (c : tie.Else1) → let s = entry (c .before) in state s .at < bIn (s .args .table .now)
 inside c = omega (arith, c .before .block-count .ensures)
 
 cast-b : tie.Need-cast-b
 cast-b c = search needs
 
 block-count-requires : tie.Need-block-count-requires
-block-count-requires c κs = head-sound _ (sound (c .before .before))
+block-count-requires c κs = head-sound _ (sound (c .before))
 
 returns : tie.Need-returns
 returns c =
     let s = entry (c .before) in
-    state-outside (s .args .table .now) (sound s) (stateOf (s .args .state)) (omega (arith, c .before .block-count .ensures))
+    state-outside (s .args .table .now) (sound s) (state s) (omega (arith, c .before .block-count .ensures))
 
 offset-requires : tie.Need-offset-requires
 offset-requires c κs = (head-sound _ (sound (entry (c .before))), inside c)
 
 timers-at-requires : tie.Need-timers-at-requires
 timers-at-requires c κs =
-    let at = c .before in
-    let s = entry (counted at .before) in
-    omega (arith, at .offset .ensures, header-inside (s .args .table .now) (sound s) (s .args .state .at) (inside (counted at)))
+    let s = entry (c .before .before) in
+    omega (arith, c .offset .ensures, header-inside (s .args .table .now) (sound s) (state s .at) (inside (c .before)))
 
 readings-ok-requires : tie.Need-readings-ok-requires
 readings-ok-requires c κs = search needs
@@ -59,13 +59,13 @@ readings-ok-requires c κs = search needs
 returns-2 : tie.Need-returns-2
 returns-2 c =
     let at = place c in
-    let s = entry (counted at .before) in
+    let s = entry (at .before .before) in
     let w = s .args .table .now in
-    let q = stateOf (s .args .state) in
+    let q = state s in
     c .readings-ok .ensures
     ∙ ap₂ (λ (y : ℕ) (d : List ℕ). readingsOk y (λ t. getD d t 0) (q .readings))
-    (c .before .before .timers-at .ensures ∙ timers-are w (q .at) (at .offset .ensures)) (s .pre .1)
-    ∙ state-inside w (sound s) q (inside (counted at))
+    (c .before .before .before .timers-at .ensures ∙ timers-are w (q .at) (at .offset .ensures)) (s .pre .1)
+    ∙ state-inside w (sound s) q (inside (at .before))
 
 pub state-ok-spec : {M : Type 1} → statement M
 state-ok-spec =

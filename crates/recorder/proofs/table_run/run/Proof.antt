@@ -11,21 +11,15 @@ use Rattle.recorder.proofs.TableRunLaws.{run-bad-table, run-bad-state, 
 use Rattle.recorder.proofs.table_run.run.Statement.{statement}
 use Rattle.recorder.proofs.table_run.run.Tie as tie
 
--- ---- the places that the needs go back to, each from the one after it: the entry, the table checked, the state checked, all checked
-
+-- the places that the needs go back to, each from the one after it: the entry, the table checked, the room checked
 abbrev entry : tie.After-table-ok → tie.Start
 entry c = c .before .before .before .before
 
 abbrev checked : tie.After-state-ok → tie.Else1
 checked c = c .before .before .before
 
-abbrev admitted : tie.Else3 → tie.Else2
-admitted c = c .before
-
 abbrev ready : tie.After-ticks → tie.Else3
 ready c = c .before .before .before
-
--- ---- what holds there
 
 -- the layout is sound
 sound : (c : tie.Else1) → tableOk (entry (c .before) .args .table .now) ≡ true
@@ -77,7 +71,7 @@ returns-3 c =
 ticks-requires : tie.Need-ticks-requires
 ticks-requires c κs =
     let room = c .before .before in
-    let state = admitted room in
+    let state = room .before in
     let on = checked (state .before) in
     (sound on, state .before .before .before .delays .ensures, state-sound state, omega (arith, room .if3 .left))
 
@@ -88,7 +82,7 @@ returns-4 : tie.Need-returns-4
 returns-4 c =
     let end = c .before .before in
     let room = ready end in
-    let state = admitted room in
+    let state = room .before in
     let on = checked (state .before) in
     let a = entry (on .before) .args in
     end .ticks .ensures
