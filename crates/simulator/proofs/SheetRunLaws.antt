@@ -53,7 +53,7 @@ pub record ReachedModes (s inputs out₀ : List ℕ) (q₀ : State) (out ends : 
   pub few : total ≤ 64 * i
 
 -- at the start the deadlines are the readings
-module _ (s inputs out : List ℕ) (sd : Sound s) (q : State) (ok : stateOk s q ≡ true) {ends : List ℕ} (ee : ends ≡ q .readings) (long : length ends ≡ 64) where
+module _ (s : List ℕ) (sd : Sound s) (q : State) (ok : stateOk s q ≡ true) {ends : List ℕ} (ee : ends ≡ q .readings) (long : length ends ≡ 64) where
   pub start-state : stateAt s (q .at) ends 0 ≡ q
   start-state =
       ap (λ (l : List ℕ). stateAt s (q .at) l 0) ee
@@ -64,9 +64,9 @@ module _ (s inputs out : List ℕ) (sd : Sound s) (q : State) (ok : stateOk s q 
   start-right t h =
       start-within (running s (q .at)) (delay s) q (admitted s q ok) t (lt-of-lt-of-le (running-e s (q .at) t h .small) (t-le s sd)) h
 
-  pub start-modes : {live : ℕ} → live ≡ sourcesIn s (q .at) → 5 * length inputs ≤ length out
+  pub start-modes : {inputs out : List ℕ} {live : ℕ} → live ≡ sourcesIn s (q .at) → 5 * length inputs ≤ length out
       → ReachedModes s inputs out (stateAt s (q .at) ends 0) out ends (q .at) live 0 0
-  start-modes l room =
+  start-modes {inputs} {out} l room =
       record {
         reached = reached-start (kOf s) (sheetStep s) inputs out (stateAt s (q .at) ends 0) room;
         sound = sd;
@@ -125,8 +125,7 @@ module _ {s inputs out₀ : List ℕ} {q₀ : State} {out ends : List ℕ} {x li
       ran-before : has (z .entered) (source s t) ≡ false → T (has (running s x) t)
       unfolding tickFrom
       ran-before e =
-          running-i s x t
-          (record { small = on .small; timer = on .timer; on = was (stayed-or-entered s (dueTimers (running s x) (now .readings)) input x (source s t) (on .on)) })
+          running-i s x t (record { small = on .small; timer = on .timer; on = was (stayed-or-entered s _ input x (source s t) (on .on)) })
         where
           was : T (has x (source s t)) ⊎ T (has (z .entered) (source s t)) → T (has x (source s t))
           was (inl r) = r
@@ -200,7 +199,9 @@ module _ {s inputs out₀ : List ℕ} {q₀ : State} {out ends : List ℕ} {x li
             sources = k .sources;
             small = lt-of-members 64 (tOf s) d due-word (λ t l _. is-false (has d t) (λ m. let on = runs t m in omega (arith, on .small)));
             timing = λ t m. runs t m .timer;
-            none = λ e. empty 64 due-word (λ t l. is-false (has d t) (λ m. subst T (ap (λ (y : ℕ). has y (source s t)) e ∙ has-none (source s t)) (runs t m .on)));
+            none =
+                λ e. empty 64 due-word (λ t l.
+                is-false (has d t) (λ m. subst T (ap (λ (y : ℕ). has y (source s t)) e ∙ has-none (source s t)) (runs t m .on)));
           }
 
       module _ (l : i < length inputs) (b : input / 2 ^ kOf s ≡ 0) {r : Tick} (re : r ≡ tick s x d input) where

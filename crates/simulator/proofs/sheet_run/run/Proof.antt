@@ -4,41 +4,37 @@ use mathlib.Core.Bool.{true}
 use native.Mathlib.Omega.{arith}
 use borrow.Author.Needs.{needs}
 use Rattle.sets.proofs.Loops.{passed, failed}
-use Rattle.meaning.specs.Sheet.{kOf}
-use Rattle.meaning.specs.Check.{sheetRefusal}
-use Rattle.meaning.specs.SheetRun.{stateOk, sheetStep, sheetRun}
+use Rattle.meaning.specs.SheetRun.{stateOk, sheetRun}
 use Rattle.run.specs.States.{stateOf}
 use Rattle.run.proofs.LoopLaws.{stopped-refused, stopped-state, stopped-short, goes-on}
 use Rattle.simulator.proofs.SheetRunLaws.{answered}
 use Rattle.simulator.proofs.sheet_run.run.Statement.{statement}
 use Rattle.simulator.proofs.sheet_run.run.Tie as tie
 
--- ---- the places that the needs go back to, each from the one after it: the entry, the sheet checked, planned, the state checked, all
--- checked
+-- ---- the places that the needs go back to, each from the one after it: the entry, the sheet checked, its plan made, its delays, the
+-- state checked, all checked
 
 abbrev entry : tie.After-check → tie.Start
 entry c = c .before .before .before .before
 
-abbrev checked : tie.After-timer-delays → tie.Else1
-checked c = c .before .before .before
+abbrev checked : tie.After-planned → tie.Else1
+checked c = c .before
 
-abbrev prepared : tie.After-state-ok → tie.After-timer-delays
-prepared c = c .before .before .before
+abbrev plan : tie.After-timer-delays → tie.After-planned
+plan c = c .before .before
 
-abbrev ready : tie.After-ticks → tie.Else3
-ready c = c .before .before .before .before
+abbrev delays : tie.After-delays → tie.After-timer-delays
+delays c = c .before .before
 
-abbrev start : tie.After-timer-delays → tie.Start
-start c = entry (checked c .before .before)
+abbrev ready : tie.After-ticks-arg → tie.Else3
+ready c = c .before .before .before
 
--- ---- what holds there
+abbrev prepared : tie.After-state-ok → tie.After-planned
+prepared c = plan (delays (c .before))
 
--- the sheet is past 1 to 6
-past : (c : tie.Else1) → sheetRefusal (entry (c .before .before) .args .sheet .now) ≡ 0
-past c = sym (c .before .before .check .ensures) ∙ sym (c .before .number .ensures) ∙ c .if1 .left
-
--- the state is sound
-admitted : (c : tie.Else2) → let a = start (prepared (c .before)) .args in stateOk (a .sheet .now) (stateOf (a .state)) ≡ true
+-- there the state is sound
+admitted : (c : tie.Else2)
+    → let a = entry (checked (prepared (c .before)) .before .before) .args in stateOk (a .sheet .now) (stateOf (a .state)) ≡ true
 admitted c = passed (c .before .state-ok .ensures) (c .if2 .left)
 
 -- ---- the needs
@@ -56,23 +52,19 @@ returns : tie.Need-returns
 unfolding sheetRun
 returns c =
     let refused = c .before in
-    let check = refused .before .before in
-    let a = entry check .args in
-    let w = a .sheet .now in
-    let q = stateOf (a .state) in
-    answered w (a .inputs .now) (a .out .now) q
-    (c .stops .ensures .0 (a .out .now)
-    ∙ stopped-refused (kOf w) (sheetStep w) (sheetRefusal w) (stateOk w q) q (a .inputs .now) (a .out .now) (check .check .ensures)
-    (λ e. refused .if1 .taken (refused .before .number .ensures ∙ e))) (omega (arith, c .stops .ensures .1))
+    answered _ _ _ _
+    (c .stops .ensures .0 _
+    ∙ stopped-refused _ _ _ _ _ _ _ (refused .before .before .check .ensures) (λ e. refused .if1 .taken (refused .before .number .ensures ∙ e)))
+    (omega (arith, c .stops .ensures .1))
 
 planned-requires : tie.Need-planned-requires
-planned-requires c κs = past c
+planned-requires c κs = sym (c .before .before .check .ensures) ∙ sym (c .before .number .ensures) ∙ c .if1 .left
 
 timer-delays-requires : tie.Need-timer-delays-requires
 timer-delays-requires c κs = search needs
 
 state-ok-requires : tie.Need-state-ok-requires
-state-ok-requires c κs = let delays = c .before .before in (delays .before .before .planned .ensures, delays .timer-delays .ensures)
+state-ok-requires c κs = (plan (delays c) .planned .ensures, delays c .timer-delays .ensures)
 
 stops-requires-2 : tie.Need-stops-requires-2
 stops-requires-2 c κs = search needs
@@ -81,14 +73,10 @@ returns-2 : tie.Need-returns-2
 unfolding sheetRun
 returns-2 c =
     let state = c .before .before in
-    let delays = prepared state in
-    let a = start delays .args in
-    let w = a .sheet .now in
-    let q = stateOf (a .state) in
-    answered w (a .inputs .now) (a .out .now) q
-    (c .stops2 .ensures .0 (a .out .now)
-    ∙ stopped-state (kOf w) (sheetStep w) (sheetRefusal w) (stateOk w q) q (a .inputs .now) (a .out .now) (past (checked delays))
-    (failed (state .state-ok .ensures) (c .before .if2 .taken))) (omega (arith, c .stops2 .ensures .1))
+    answered _ _ _ _
+    (c .stops2 .ensures .0 _
+    ∙ stopped-state _ _ _ _ _ _ _ (prepared state .planned .ensures .passes) (failed (state .state-ok .ensures) (c .before .if2 .taken)))
+    (omega (arith, c .stops2 .ensures .1))
 
 stops-requires-3 : tie.Need-stops-requires-3
 stops-requires-3 c κs = search needs
@@ -97,20 +85,16 @@ returns-3 : tie.Need-returns-3
 unfolding sheetRun
 returns-3 c =
     let state = c .before .before in
-    let delays = prepared (state .before) in
-    let a = start delays .args in
-    let w = a .sheet .now in
-    let q = stateOf (a .state) in
-    answered w (a .inputs .now) (a .out .now) q
-    (c .stops3 .ensures .0 (a .out .now)
-    ∙ stopped-short (kOf w) (sheetStep w) (sheetRefusal w) (stateOk w q) q (a .inputs .now) (a .out .now) (past (checked delays))
-    (admitted state) (c .before .if3 .taken)) (omega (arith, c .stops3 .ensures .1))
+    answered _ _ _ _
+    (c .stops3 .ensures .0 _
+    ∙ stopped-short _ _ _ _ _ _ _ (prepared (state .before) .planned .ensures .passes) (admitted state) (c .before .if3 .taken))
+    (omega (arith, c .stops3 .ensures .1))
 
 ticks-requires : tie.Need-ticks-requires
 ticks-requires c κs =
-    let room = c .before .before .before in
-    let delays = prepared (room .before .before) in
-    (delays .before .before .planned .ensures, delays .timer-delays .ensures, admitted (room .before), omega (arith, room .if3 .left))
+    let room = ready c in
+    let made = delays (room .before .before .before) in
+    (plan made .planned .ensures, made .timer-delays .ensures, admitted (room .before), omega (arith, room .if3 .left))
 
 same-length : tie.Need-same-length
 same-length c = search needs
@@ -119,15 +103,12 @@ returns-4 : tie.Need-returns-4
 unfolding sheetRun
 returns-4 c =
     let end = c .before .before in
-    let room = ready end in
-    let delays = prepared (room .before .before) in
-    let a = start delays .args in
-    let w = a .sheet .now in
-    let q = stateOf (a .state) in
-    answered w (a .inputs .now) (a .out .now) q
+    let room = ready (end .before) in
+    let state = room .before in
+    answered _ _ _ _
     (end .ticks .ensures .0
-    ∙ goes-on (kOf w) (sheetStep w) (sheetRefusal w) (stateOk w q) q (a .inputs .now) (a .out .now) (past (checked delays))
-    (admitted (room .before)) (omega (arith, room .if3 .left))) (end .ticks .ensures .1)
+    ∙ goes-on _ _ _ _ _ _ _ (prepared (state .before) .planned .ensures .passes) (admitted state) (omega (arith, room .if3 .left)))
+    (end .ticks .ensures .1)
 
 pub run-spec : {M : Type 1} → statement M
 run-spec =

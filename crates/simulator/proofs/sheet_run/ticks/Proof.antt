@@ -20,7 +20,8 @@ use Rattle.run.specs.Counts.{totalOf}
 use Rattle.run.specs.States.{stateOf}
 use Rattle.run.proofs.LoopLaws.{input-below}
 use Rattle.simulator.proofs.DelayLaws.{delay-word}
-use Rattle.simulator.proofs.SheetRunLaws.{stateAt, ReachedModes, start-state, start-modes, later, ends-done, ends-foreign, tick-begins, ends-refused, next-turn}
+use Rattle.simulator.proofs.SheetRunLaws.{stateAt, ReachedModes, start-state, start-modes, later, ends-done, ends-foreign}
+use Rattle.simulator.proofs.SheetRunLaws.{tick-begins, ends-refused, next-turn}
 use Rattle.simulator.proofs.sheet_run.ticks.Statement.{statement}
 use Rattle.simulator.proofs.sheet_run.ticks.Tie as tie
 
@@ -43,29 +44,33 @@ counted c = c .before .before
 abbrev dates : tie.At-loop Inv-loop μ-loop → tie.After-deadlines Inv-loop μ-loop
 dates c = c .before .before
 
--- in a turn: the input set read, and below 2^k; the tick, and done; the timers that start; the deadlines; the five words put
+-- in a turn: the input set read, and below 2^k; the tick, and not refused; the timers that start; the deadlines; the five words
+-- put; the rounds added
 abbrev turn : tie.After-shared-slice-known3 Inv-loop μ-loop → tie.In-loop Inv-loop μ-loop
 turn c = c .before
 
 abbrev known : tie.After-due Inv-loop μ-loop → tie.Else1 Inv-loop μ-loop
 known c = c .before .before
 
-abbrev ticked : tie.Else2 Inv-loop μ-loop → tie.After-tick Inv-loop μ-loop
-ticked c = c .before .before
+abbrev ticked : tie.After-number Inv-loop μ-loop → tie.After-tick Inv-loop μ-loop
+ticked c = c .before
 
-abbrev passed : tie.After-from-set2 Inv-loop μ-loop → tie.Else2 Inv-loop μ-loop
-passed c = c .before .before
+abbrev allowed : tie.After-from-set2 Inv-loop μ-loop → tie.Else2 Inv-loop μ-loop
+allowed c = c .before .before
 
-abbrev again : tie.After-restart Inv-loop μ-loop → tie.After-from-set2 Inv-loop μ-loop
-again c = c .before .before .before
+abbrev started : tie.After-ends4 Inv-loop μ-loop → tie.After-from-set2 Inv-loop μ-loop
+started c = c .before .before
 
-abbrev restarted : tie.After-five-words Inv-loop μ-loop → tie.After-restart Inv-loop μ-loop
-restarted c = c .before .before
+abbrev restarted : tie.After-put-five-arg Inv-loop μ-loop → tie.After-restart Inv-loop μ-loop
+restarted c = c .before
 
 abbrev put : tie.After-slice-known2 Inv-loop μ-loop → tie.After-put-five Inv-loop μ-loop
 put c = c .before .before
 
--- the entry from the deadlines and from the loop's head; the turn and the head from the tick; the tick from what follows it
+abbrev added : tie.After-with-rounds Inv-loop μ-loop → tie.After-slice-known2 Inv-loop μ-loop
+added c = c .before
+
+-- the entry from the deadlines and from the loop's head; the turn and the head from the tick; the tick and the deadlines from later on
 abbrev begun : tie.After-deadlines Inv-loop μ-loop → tie.Start Inv-loop μ-loop
 begun c = entry (counted c .before)
 
@@ -78,11 +83,14 @@ inside c = turn (known (c .before) .before)
 abbrev head : tie.After-tick Inv-loop μ-loop → tie.At-loop Inv-loop μ-loop
 head c = inside c .before
 
-abbrev left : tie.After-restart Inv-loop μ-loop → tie.After-tick Inv-loop μ-loop
-left c = ticked (passed (again c))
+abbrev reacted : tie.After-ends4 Inv-loop μ-loop → tie.After-tick Inv-loop μ-loop
+reacted c = ticked (allowed (started c) .before)
 
-abbrev done : tie.After-slice-known2 Inv-loop μ-loop → tie.After-restart Inv-loop μ-loop
-done c = restarted (put c .before)
+abbrev moved : tie.After-five-words Inv-loop μ-loop → tie.After-restart Inv-loop μ-loop
+moved c = restarted (c .before)
+
+abbrev inputs-left : tie.After-slice-known2 Inv-loop μ-loop → tie.In-loop Inv-loop μ-loop
+inputs-left c = inside (reacted (moved (put c .before) .before))
 
 -- ---- what holds there
 
@@ -117,7 +125,7 @@ from-start c =
     let s = start c in
     let a = s .args in
     ap (λ (q : State). ran (a .out .now) (sheetTicks (a .sheet .now) (a .inputs .now) q))
-    (start-state (a .sheet .now) (a .inputs .now) (a .out .now) (sheet-sound c) (stateOf (a .start)) (s .pre .2) (dates c .deadlines .ensures) (long (dates c)))
+    (start-state (a .sheet .now) (sheet-sound c) (stateOf (a .start)) (s .pre .2) (dates c .deadlines .ensures) (long (dates c)))
 
 -- the input set has no bit at k or above
 input-ok : (c : tie.Else1 Inv-loop μ-loop)
@@ -145,7 +153,7 @@ loop-holds : tie.Need-loop-holds Inv-loop μ-loop
 loop-holds c =
     let s = begun (c .before) in
     let a = s .args in (
-      start-modes (a .sheet .now) (a .inputs .now) (a .out .now) (sound _ (s .pre .0 .passes)) (stateOf (a .start)) (s .pre .2)
+      start-modes (a .sheet .now) (sound _ (s .pre .0 .passes)) (stateOf (a .start)) (s .pre .2)
           (c .before .deadlines .ensures) (long (c .before)) (c .from-set .ensures) (s .pre .3),
       omega arith,
     )
@@ -193,15 +201,15 @@ number-requires : tie.Need-number-requires Inv-loop μ-loop
 number-requires c κs = search needs
 
 ended-requires-2 : tie.Need-ended-requires-2 Inv-loop μ-loop
-ended-requires-2 c κs = not-past (head (c .before .before .before))
+ended-requires-2 c κs = not-past (head (ticked (c .before .before)))
 
 same-length-2 : tie.Need-same-length-2 Inv-loop μ-loop
-same-length-2 c = omega (arith, head (c .before .before .before .before) .loop .inv .0 .reached .same)
+same-length-2 c = omega (arith, head (ticked (c .before .before .before)) .loop .inv .0 .reached .same)
 
 returns-2 : tie.Need-returns-2 Inv-loop μ-loop
 returns-2 c =
     let refused = c .before .before in
-    let tick = refused .before .before in
+    let tick = ticked (refused .before) in
     let at = head tick in (
       c .ended2 .ensures .0 (at .loop .out)
           ∙ ends-refused (at .loop .inv .0) (runs at) (tick .before .due .ensures .0) (inside tick .loop-test .taken) (input-ok (known (tick .before)))
@@ -211,49 +219,50 @@ returns-2 c =
     )
 
 from-set-requires-2 : tie.Need-from-set-requires-2 Inv-loop μ-loop
-from-set-requires-2 c κs = start (head (ticked (c .before))) .pre .0 .fromAt
+from-set-requires-2 c κs = start (head (ticked (c .before .before))) .pre .0 .fromAt
 
 restart-requires : tie.Need-restart-requires Inv-loop μ-loop
 restart-requires c κs =
-    let tick = ticked (passed (c .before .before)) in
+    let tick = reacted c in
     let at = head tick in
     (at .loop .inv .0 .long, omega (arith, short (inside tick)), λ t l. delay-word _ (start at .pre .1) t l (sheet-sound at))
 
 mul-put-five : tie.Need-mul-put-five Inv-loop μ-loop
-mul-put-five c = omega (arith, short (inside (left (c .before))))
+mul-put-five c = omega (arith, short (inside (reacted (restarted c .before))))
 
 five-words-requires : tie.Need-five-words-requires Inv-loop μ-loop
 five-words-requires c κs = search needs
 
 put-five-requires : tie.Need-put-five-requires Inv-loop μ-loop
 put-five-requires c κs =
-    let on = inside (left (restarted c)) in
+    let on = inside (reacted (moved c .before)) in
     omega (arith, on .loop-test .taken, on .before .loop .inv .0 .reached .room)
 
 with-rounds-requires : tie.Need-with-rounds-requires Inv-loop μ-loop
 with-rounds-requires c κs =
-    let on = inside (left (done c)) in
+    let on = inputs-left c in
     (omega (arith, short on, on .before .loop .inv .0 .few), on .before .loop .inv .1)
 
 add-i : tie.Need-add-i Inv-loop μ-loop
-add-i c = omega (arith, short (inside (left (done (c .before)))))
+add-i c = omega (arith, short (inputs-left (added c)))
 
 loop-less : tie.Need-loop-less Inv-loop μ-loop
-loop-less c = omega (arith, inside (left (done (c .before))) .loop-test .taken)
+loop-less c = omega (arith, inputs-left (added c) .loop-test .taken)
 
 loop-again : tie.Need-loop-again Inv-loop μ-loop
 loop-again c =
-    let at-put = put (c .before) in
-    let after = done (c .before) in
-    let ok = passed (again after) in
-    let tick = ticked ok in
+    let out = put (added c) in
+    let dates = moved (out .before) in
+    let starts = started (dates .before) in
+    let ok = allowed starts in
+    let tick = ticked (ok .before) in
     let at = head tick in
     let p = start at .pre in (
       next-turn (at .loop .inv .0) (runs at) (tick .before .due .ensures .0) (inside tick .loop-test .taken) (input-ok (known (tick .before)))
           (tick .tick .ensures .0) (sym (ok .before .number .ensures) ∙ ok .if2 .left)
-          (ap₂ meet (again after .from-set2 .ensures) (ap₂ meet (tick .tick .ensures .1) (p .0 .timingAt) ∙ running-meet _ _))
-          (p .1) (after .restart .ensures)
-          (at-put .put-five .ensures ∙ ap (over (at .loop .out) (5 * at .loop .i)) (at-put .before .five-words .ensures))
+          (ap₂ meet (starts .from-set2 .ensures) (ap₂ meet (tick .tick .ensures .1) (p .0 .timingAt) ∙ running-meet _ _))
+          (p .1) (dates .restart .ensures)
+          (out .put-five .ensures ∙ ap (over (at .loop .out) (5 * at .loop .i)) (out .before .five-words .ensures))
           (tick .tick .ensures .1) (c .with-rounds .ensures .0),
       c .with-rounds .ensures .1,
     )
