@@ -76,6 +76,9 @@ rowFrom-at f a i zero j l = absurd (not-suc-le-zero l)
 rowFrom-at f a i (suc w) zero l = ap f (sym (add-zero i))
 rowFrom-at f a i (suc w) (suc j) l = rowFrom-at f a (suc i) w j (le-of-suc-le-suc l) ∙ ap f (omega arith)
 
+pub row-at : (w : ℕ) (f : ℕ → ℕ) (j : ℕ) → j < w → getD (rowFrom 0 w f) j 0 ≡ f j
+row-at w f j l = rowFrom-at f 0 0 w j l ∙ ap f (zero-add j)
+
 pub rowFrom-ext : {A : Type 0} (f g : ℕ → A) (i w : ℕ) → ((u : ℕ) → i ≤ u → u < i + w → f u ≡ g u) → rowFrom i w f ≡ rowFrom i w g
 unfolding rowFrom
 rowFrom-ext f g i zero h = refl

@@ -4,7 +4,7 @@ use mathlib.Core.Logic.{_⊎_, inl, inr}
 use mathlib.Core.Bool.{Bool, true, false, not, _&&_, cond}
 use mathlib.Core.List.{List, [], _∷_}
 use Prim.Native.Nat.{ℕ, _-_, _^_, _≤_, _<_}
-use native.Mathlib.Nat.{zero-add, lt-of-lt-of-le}
+use native.Mathlib.Nat.{lt-of-lt-of-le}
 use native.Mathlib.Omega.{arith}
 use lib.Dec.{T, eqb, leb, ltb, eqb→eq, leb→le, ltb→lt}
 use lib.ListN.{getD, getD-replicate}
@@ -19,7 +19,7 @@ use Rattle.meaning.specs.Reaction.{TickSets, isDelay, delay, isTimer, ru
 use Rattle.meaning.specs.Tick.{tick}
 use Rattle.meaning.specs.Run.{State, reading, powerOn, dueTimers, nextReadings, nextState}
 use Rattle.meaning.specs.SheetRun.{tickFrom, stateAfter}
-use Rattle.meaning.proofs.ListLaws.{allOf-e, rowFrom-at, rowFrom-ext}
+use Rattle.meaning.proofs.ListLaws.{row-at, allOf-e, rowFrom-ext}
 use Rattle.meaning.proofs.SheetLaws.{Sound, t-le}
 use Rattle.meaning.proofs.TickLaws.{stayed-or-entered, not-due, Runs, running-e, running-i}
 
@@ -30,7 +30,7 @@ pub next-reading : (timers entered : ℕ) (sourceOf delayOf : ℕ → ℕ) (read
 unfolding nextReadings reading
 next-reading timers entered sourceOf delayOf readings t l =
     let f : ℕ → ℕ = λ u. cond (has timers u) (cond (has entered (sourceOf u)) (delayOf u) (getD readings u 0 - 1)) 0 in
-    rowFrom-at f 0 0 64 t l ∙ ap f (zero-add t)
+    row-at 64 f t l
 
 -- readings after a tick agree where sources and delays do on the running timers
 pub next-readings-ext : (timers entered : ℕ) (f f′ g g′ : ℕ → ℕ) (readings : List ℕ) → ((u : ℕ) → T (has timers u) → (f u ≡ f′ u) × (g u ≡ g′ u))

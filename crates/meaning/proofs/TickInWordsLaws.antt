@@ -4,7 +4,7 @@ use mathlib.Core.Logic.{_⊎_, inl, inr}
 use mathlib.Core.Bool.{Bool, true, false, not, _&&_, _||_, cond, or-true, or-false, and-false, and-true}
 use mathlib.Core.List.{List}
 use Prim.Native.Nat.{ℕ, zero, suc, _-_, _<_}
-use native.Mathlib.Nat.{zero-add, pos-of-ne-zero, lt-of-lt-of-le}
+use native.Mathlib.Nat.{pos-of-ne-zero, lt-of-lt-of-le}
 use lib.Dec.{T, eqb, ltb, lt→ltb}
 use lib.ListN.{getD}
 use borrow.Author.Tests.{eqb-false}
@@ -20,7 +20,7 @@ use Rattle.meaning.specs.Run.{State, reading, dueTimers, nextReadings, n
 use Rattle.meaning.specs.SheetRun.{tickFrom, stateAfter}
 use Rattle.meaning.specs.TickInWords.{Timed, timed, triggerAt, chosenAt, restarted, timedFrom, startReadings, timedTick, timedState}
 use Rattle.meaning.specs.Promises.{InWords}
-use Rattle.meaning.proofs.ListLaws.{rowFrom-at, rowFrom-ext}
+use Rattle.meaning.proofs.ListLaws.{row-at, rowFrom-ext}
 use Rattle.meaning.proofs.SheetLaws.{Sound, sound, t-le}
 use Rattle.meaning.proofs.TickLaws.{modes-after, entered-after, Runs, running-e, running-i}
 use Rattle.meaning.proofs.ReadingLaws.{due-at}
@@ -76,7 +76,7 @@ module _ (s : List ℕ) (sd : Sound s) (d i : ℕ) (low : ℕ → ℕ) where
 
       now′ : (b : Bool) → has (running s (entering s es)) t ≡ b → getD (rowFrom 0 64 row) t 0 ≡ cond b (delay s t) (getD readings t 0)
       now′ b e =
-          rowFrom-at row 0 0 64 t (lt-of-lt-of-le (k .small) (t-le s sd)) ∙ ap row (zero-add t)
+          row-at 64 row t (lt-of-lt-of-le (k .small) (t-le s sd))
           ∙ ap (λ (c : Bool). cond c (delay s t) (getD readings t 0)) e
 
       starts : has (entering s es) (source s t) ≡ true → has (running s (entering s es)) t ≡ true
@@ -178,7 +178,7 @@ module _ (s : List ℕ) (sd : Sound s) (q : State) (i : ℕ) where
 
       first : (b : Bool) → Runs s (start b .modes) t → getD (rowFrom 0 64 (row b)) t 0 ≡ cond b (delay s t) (low t)
       first b r =
-          rowFrom-at (row b) 0 0 64 t (lt-of-lt-of-le (r .small) (t-le s sd)) ∙ ap (row b) (zero-add t)
+          row-at 64 (row b) t (lt-of-lt-of-le (r .small) (t-le s sd))
           ∙ ap (λ (c : Bool). cond c (cond b (delay s t) (low t)) 0) (is-true (has (running s (start b .modes)) t) (running-i s (start b .modes) t r))
 
       go : (b : Bool) → eqb (q .at) 0 ≡ b → Runs s (start b .modes) t → Reads s sd d i low (start b) (rowFrom 0 64 (row b)) t

@@ -12,7 +12,7 @@ use lib.Seq.{length-take-le, ext-getD, getD-take, getD-drop, getD-append-add, ge
 use Rattle.rows.specs.Over.{over}
 use Rattle.rows.proofs.OverLaws.{length-over, over-nil, over-sets}
 use Rattle.meaning.specs.Lists.{rowFrom}
-use Rattle.meaning.proofs.ListLaws.{rowFrom-at, rowFrom-length}
+use Rattle.meaning.proofs.ListLaws.{row-at, rowFrom-length}
 use Rattle.planner.specs.Parts.{WordsAt}
 
 -- ---- one word of a list with words laid over it
@@ -67,7 +67,7 @@ module _ (l : List ℕ) (at w : ℕ) (f : ℕ → ℕ) (h : at + w ≤ length l)
   -- a word of it, and a word beside it
   pub part-in : (t : ℕ) → t < w → getD (over l at (rowFrom 0 w f)) (at + t) 0 ≡ f t
   part-in t k =
-      over-in l at (rowFrom 0 w f) fits t (omega (arith, rowFrom-length f 0 w)) ∙ rowFrom-at f 0 0 w t k ∙ ap f (zero-add t)
+      over-in l at (rowFrom 0 w f) fits t (omega (arith, rowFrom-length f 0 w)) ∙ row-at w f t k
 
   pub part-out : (i : ℕ) → (at ≤ i → i < at + w → ⊥) → getD (over l at (rowFrom 0 w f)) i 0 ≡ getD l i 0
   part-out i k = over-out l at (rowFrom 0 w f) fits i (λ a b. k a (omega (arith, rowFrom-length f 0 w)))

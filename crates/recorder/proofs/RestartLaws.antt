@@ -20,7 +20,7 @@ use Rattle.meaning.specs.TableRun.{stateAfterCell, isStale}
 use Rattle.meaning.proofs.ReadingLaws.{next-reading, due-at}
 use Rattle.table.proofs.LayoutFacts.{t-le, delay-pos, source-lt}
 use Rattle.recorder.specs.Timers.{timersBelow, timersFrom}
-use Rattle.recorder.proofs.RowStoreLaws.{row-at}
+use Rattle.meaning.proofs.ListLaws.{row-at}
 
 -- ---- general
 

@@ -2,15 +2,11 @@
 use mathlib.Core.Path.{_≡_, sym, ap, _∙_}
 use Prim.Native.Nat.{ℕ, _<_}
 use native.Mathlib.Decide.{ℕ-discrete}
-use native.Mathlib.Nat.{zero-add}
 use native.Mathlib.Omega.{arith}
 use lib.ListN.{length, getD, set, replicate, length-set, length-replicate, getD-replicate}
 use lib.Seq.{ext-getD, getD-set-same, getD-set-other}
 use Rattle.meaning.specs.Lists.{rowFrom}
-use Rattle.meaning.proofs.ListLaws.{rowFrom-at, rowFrom-length}
-
-pub row-at : (n : ℕ) (f : ℕ → ℕ) (j : ℕ) → j < n → getD (rowFrom 0 n f) j 0 ≡ f j
-row-at n f j l = rowFrom-at f 0 0 n j l ∙ ap f (zero-add j)
+use Rattle.meaning.proofs.ListLaws.{row-at, rowFrom-length}
 
 -- a row of zeros
 pub row-zeros : (n : ℕ) (f : ℕ → ℕ) → ((j : ℕ) → j < n → f j ≡ 0) → replicate n 0 ≡ rowFrom 0 n f

@@ -16,7 +16,6 @@ use Rattle.meaning.specs.Lists.{rowFrom, refusedIf}
 use Rattle.meaning.specs.Run.{State, reading, dueTimers, ran}
 use Rattle.meaning.specs.Table.{wordIn, kIn, bIn, sourceIn, delayIn, offsetIn, timersIn, cellsIn, cellWord, tableOk}
 use Rattle.meaning.specs.TableRun.{dueNumber, tableStateOk, cellOf, stateAfterCell, isStale, tableStep, tableTicks, tableRun}
-use Rattle.meaning.proofs.ListLaws.{rowFrom-length}
 use Rattle.meaning.proofs.TableLaws.{dueNumber-lt}
 use Rattle.run.specs.Runs.{endedRun}
 use Rattle.run.proofs.DeadlineLaws.{stateFrom, due-deadlines, state-word, state-next, state-start, start-within}
@@ -26,7 +25,7 @@ use Rattle.meaning.proofs.LayoutLaws.{next-lt}
 use Rattle.table.proofs.LayoutFacts.{timers-few, timer-lt, delay-pos, delay-lt, cell-inside}
 use Rattle.recorder.specs.Timers.{timerDelayIn, timersFrom}
 use Rattle.recorder.specs.Runs.{fiveIn}
-use Rattle.recorder.proofs.RowStoreLaws.{row-at}
+use Rattle.meaning.proofs.ListLaws.{row-at, rowFrom-length}
 use Rattle.recorder.proofs.TimerLaws.{delay-at}
 use Rattle.recorder.proofs.TableStateLaws.{admitted}
 use Rattle.recorder.proofs.RestartLaws.{started-there, none-entered, reading-after, reading-left, stale-is, stays}

@@ -14,10 +14,10 @@ use Rattle.sets.proofs.Members.{fold, fold-done}
 use Rattle.sets.proofs.Quantifiers.{has-union-over}
 use Rattle.meaning.specs.Lists.{rowFrom}
 use Rattle.meaning.specs.Table.{tIn, sourceIn, delayIn, tableOk}
-use Rattle.meaning.proofs.ListLaws.{rowFrom-ext}
 use Rattle.table.proofs.LayoutFacts.{delay-lt}
 use Rattle.recorder.specs.Timers.{timerDelayIn, timersBelow, timersFrom}
-use Rattle.recorder.proofs.RowStoreLaws.{row-at, row-zeros, row-set}
+use Rattle.meaning.proofs.ListLaws.{row-at, rowFrom-ext}
+use Rattle.recorder.proofs.RowStoreLaws.{row-zeros, row-set}
 
 module _ (w : List ℕ) where
   -- ---- the delays

@@ -3,7 +3,7 @@ use mathlib.Core.Path.{_≡_, sym, ap, _∙_, subst}
 use mathlib.Core.Bool.{Bool, true, false, _&&_, cond}
 use mathlib.Core.List.{List}
 use Prim.Native.Nat.{ℕ, _+_, _-_, _%_, _^_, _≤_, _<_}
-use native.Mathlib.Nat.{zero-add, sub-zero, mod-eq-of-lt}
+use native.Mathlib.Nat.{sub-zero, mod-eq-of-lt}
 use native.Mathlib.Omega.{arith}
 use lib.Dec.{T, eqb, leb, eqb→eq, leb→le}
 use lib.ListN.{length, getD}
@@ -13,7 +13,7 @@ use Rattle.sets.proofs.Tests.{is-true, of-true, and-l, and-r, bool-ext, cond-ex
 use Rattle.sets.proofs.Membership.{those-same}
 use Rattle.meaning.specs.Lists.{rowFrom}
 use Rattle.meaning.specs.Run.{State, reading, dueTimers, nextReadings, nextState}
-use Rattle.meaning.proofs.ListLaws.{rowFrom-at, rowFrom-ext, rowFrom-getD}
+use Rattle.meaning.proofs.ListLaws.{row-at, rowFrom-ext, rowFrom-getD}
 use Rattle.run.specs.States.{stateBy}
 use Rattle.run.proofs.ReadingTests.{readingFits}
 
@@ -29,7 +29,7 @@ module _ (timers : ℕ) (ends : List ℕ) (i : ℕ) where
   pub reading-from : (t : ℕ) → t < 64 → T (has timers t) → getD (readingsFrom timers ends i) t 0 ≡ getD ends t 0 - i
   reading-from t l h =
       let f : ℕ → ℕ = λ u. cond (has timers u) (getD ends u 0 - i) 0 in
-      rowFrom-at f 0 0 64 t l ∙ ap f (zero-add t) ∙ ap (λ (b : Bool). cond b (getD ends t 0 - i) 0) (is-true (has timers t) h)
+      row-at 64 f t l ∙ ap (λ (b : Bool). cond b (getD ends t 0 - i) 0) (is-true (has timers t) h)
 
   -- a timer is due in the tick of its deadline
   pub due-deadlines : ((t : ℕ) → t < 64 → T (has timers t) → i < getD ends t 0)

@@ -3,7 +3,6 @@ use mathlib.Core.Path.{_≡_, refl, ap, _∙_}
 use mathlib.Core.Bool.{Bool, true, false, cond}
 use mathlib.Core.List.{List}
 use Prim.Native.Nat.{ℕ, _^_, _<_}
-use native.Mathlib.Nat.{zero-add}
 use native.Mathlib.Omega.{arith}
 use lib.ListN.{getD}
 use Rattle.sets.specs.Sets.{has}
@@ -12,7 +11,7 @@ use Rattle.sets.proofs.Facts.{setOf-e, setOf-i}
 use Rattle.meaning.specs.Lists.{rowFrom}
 use Rattle.meaning.specs.Sheet.{tOf}
 use Rattle.meaning.specs.Reaction.{delay, isTimer}
-use Rattle.meaning.proofs.ListLaws.{rowFrom-at}
+use Rattle.meaning.proofs.ListLaws.{row-at}
 use Rattle.meaning.proofs.SheetLaws.{Sound}
 use Rattle.meaning.proofs.TickLaws.{Runs}
 use Rattle.meaning.proofs.ReadingLaws.{delay-small}
@@ -20,7 +19,7 @@ use Rattle.reaction.specs.Plan.{timers, timerDelay}
 
 module _ (s : List ℕ) {delays : List ℕ} (e : delays ≡ rowFrom 0 64 (timerDelay s)) (t : ℕ) (l : t < 64) where
   word-at : getD delays t 0 ≡ timerDelay s t
-  word-at = ap (λ (d : List ℕ). getD d t 0) e ∙ rowFrom-at (timerDelay s) 0 0 64 t l ∙ ap (timerDelay s) (zero-add t)
+  word-at = ap (λ (d : List ℕ). getD d t 0) e ∙ row-at 64 (timerDelay s) t l
 
   pub delay-at : {x : ℕ} → Runs s x t → getD delays t 0 ≡ delay s t
   unfolding timers

@@ -5,7 +5,7 @@ use mathlib.Core.Logic.{_⊎_, inl, inr}
 use mathlib.Core.Bool.{Bool, true, false, _&&_, cond, and-true}
 use mathlib.Core.List.{List}
 use Prim.Native.Nat.{ℕ, _+_, _-_, _*_, _/_, _^_, _≤_, _<_, zero-le}
-use native.Mathlib.Nat.{zero-add, le-of-lt, lt-of-lt-of-le}
+use native.Mathlib.Nat.{le-of-lt, lt-of-lt-of-le}
 use native.Mathlib.Omega.{arith}
 use lib.Dec.{T, eqb}
 use lib.ListN.{length, getD}
@@ -23,7 +23,7 @@ use Rattle.meaning.specs.Tick.{Tick, tick, fiveWords}
 use Rattle.meaning.specs.Run.{State, reading, dueTimers, stops, Run, ran}
 use Rattle.meaning.specs.SheetRun.{stateOk, tickFrom, stateAfter, sheetStep, sheetTicks, sheetRun}
 use Rattle.meaning.specs.Promises.{RunRounds}
-use Rattle.meaning.proofs.ListLaws.{rowFrom-at, rowFrom-length}
+use Rattle.meaning.proofs.ListLaws.{row-at, rowFrom-length}
 use Rattle.meaning.proofs.SheetLaws.{Sound, t-le}
 use Rattle.meaning.proofs.TickLaws.{stayed-or-entered, rounds-le, Runs, running-e, running-i}
 use Rattle.meaning.proofs.ReadingLaws.{delay-small, Right, right-next}
@@ -118,7 +118,7 @@ module _ {s inputs out₀ : List ℕ} {q₀ : State} {out ends : List ℕ} {x li
       deadline-after : getD ends′ t 0 ≡ cond (has (z .entered) (source s t)) (i + 1 + delay s t) (getD ends t 0)
       deadline-after =
           let f : ℕ → ℕ = λ u. cond (has set u) (i + 1 + getD delays u 0) (getD ends u 0) in
-          ap (λ (r : List ℕ). getD r t 0) ee ∙ rowFrom-at f 0 0 64 t l ∙ ap f (zero-add t)
+          ap (λ (r : List ℕ). getD r t 0) ee ∙ row-at 64 f t l
           ∙ ap₂ (λ (b : Bool) (d : ℕ). cond b (i + 1 + d) (getD ends t 0)) starts (delay-at s ye t l on)
 
       -- a timer that runs and was not entered ran before
