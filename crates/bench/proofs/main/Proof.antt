@@ -26,10 +26,5 @@ returns c = search needs
 pub main-spec : {M : Type 1} → statement M
 main-spec =
     tie.close
-    (tie.spec
-    slice-aggregate-read-numbers
-    read-numbers-requires
-    array-share-prefix-numbers
-    slice-aggregate-answer
-    answer-requires
-    returns)
+    (tie.spec slice-aggregate-read-numbers read-numbers-requires array-share-prefix-numbers slice-aggregate-answer
+    answer-requires returns)

@@ -66,22 +66,6 @@ returns-2 c = subst Within (sym (c .before .before .with-gap2 .ensures)) (within
 pub read-numbers-spec : {M : Type 1} → statement M
 read-numbers-spec =
     tie.close
-    (tie.spec
-    Inv-loop
-    μ-loop
-    start-requires
-    loop-holds
-    slice-aggregate-read-full
-    read-full-requires
-    with-gap-requires
-    same-length
-    returns
-    array-share-prefix-buf
-    slice-aggregate-with-text
-    with-text-requires
-    sub-turns
-    loop-less
-    loop-again
-    with-gap-requires-2
-    same-length-2
-    returns-2)
+    (tie.spec Inv-loop μ-loop start-requires loop-holds slice-aggregate-read-full read-full-requires with-gap-requires
+    same-length returns array-share-prefix-buf slice-aggregate-with-text with-text-requires sub-turns loop-less
+    loop-again with-gap-requires-2 same-length-2 returns-2)

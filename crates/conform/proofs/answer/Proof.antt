@@ -65,22 +65,6 @@ returns-4 c =
 pub answer-spec : {M : Type 1} → statement M
 answer-spec =
     tie.close
-    (tie.spec
-    number-requires
-    check-requires
-    slice-reshare-prefix-sheet-run
-    slice-aggregate-sheet-run
-    sheet-run-requires
-    slice-reshare-prefix-compile
-    slice-aggregate-compile
-    compile-requires
-    answer-table-requires
-    same-length
-    returns
-    same-length-2
-    returns-2
-    same-length-3
-    same-length-4
-    returns-3
-    same-length-5
-    returns-4)
+    (tie.spec number-requires check-requires slice-reshare-prefix-sheet-run slice-aggregate-sheet-run
+    sheet-run-requires slice-reshare-prefix-compile slice-aggregate-compile compile-requires answer-table-requires
+    same-length returns same-length-2 returns-2 same-length-3 same-length-4 returns-3 same-length-5 returns-4)

@@ -60,19 +60,5 @@ returns-2 c = search needs
 pub answer-all-spec : {M : Type 1} → statement M
 answer-all-spec =
     tie.close
-    (tie.spec
-    Inv-loop
-    μ-loop
-    loop-holds
-    answer-requires
-    enum-known-step
-    enum-told
-    same-length
-    same-length-2
-    returns
-    sub-turns
-    loop-less
-    loop-again
-    same-length-3
-    same-length-4
-    returns-2)
+    (tie.spec Inv-loop μ-loop loop-holds answer-requires enum-known-step enum-told same-length same-length-2 returns
+    sub-turns loop-less loop-again same-length-3 same-length-4 returns-2)

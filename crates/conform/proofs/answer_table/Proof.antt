@@ -51,18 +51,6 @@ returns-4 c = search needs
 pub answer-table-spec : {M : Type 1} → statement M
 answer-table-spec =
     tie.close
-    (tie.spec
-    slice-reshare-prefix-table-run
-    slice-aggregate-table-run
-    table-run-requires
-    slice-relend-prefix-write-word
-    slice-aggregate-write-word
-    write-word-requires
-    number-requires
-    at-most-requires
-    same-length
-    returns
-    same-length-2
-    returns-2
-    returns-3
-    returns-4)
+    (tie.spec slice-reshare-prefix-table-run slice-aggregate-table-run table-run-requires
+    slice-relend-prefix-write-word slice-aggregate-write-word write-word-requires number-requires at-most-requires
+    same-length returns same-length-2 returns-2 returns-3 returns-4)

@@ -41,13 +41,5 @@ returns-2 c =
 pub modechart-compile-spec : {M : Type 1} → statement M
 modechart-compile-spec =
     tie.close
-    (tie.spec
-    returns
-    compile-requires
-    slice-write-info
-    slice-write-info-2
-    number-requires
-    same-length
-    same-length-2
-    same-length-3
-    returns-2)
+    (tie.spec returns compile-requires slice-write-info slice-write-info-2 number-requires same-length same-length-2
+    same-length-3 returns-2)

@@ -153,21 +153,6 @@ returns c =
 pub planned-spec : {M : Type 1} → statement M
 planned-spec =
     tie.close
-    (tie.spec
-    insides-requires
-    classes-of-requires
-    put-from-requires
-    put-ends-requires
-    put-changes-requires
-    put-changes-requires-2
-    put-conflicts-requires
-    put-yielders-requires
-    put-delays-requires
-    put-hits-requires
-    array-write-plan
-    mixed-requires
-    array-write-plan-2
-    start-requires
-    cast-plan
-    array-write-plan-3
-    returns)
+    (tie.spec insides-requires classes-of-requires put-from-requires put-ends-requires put-changes-requires
+    put-changes-requires-2 put-conflicts-requires put-yielders-requires put-delays-requires put-hits-requires
+    array-write-plan mixed-requires array-write-plan-2 start-requires cast-plan array-write-plan-3 returns)

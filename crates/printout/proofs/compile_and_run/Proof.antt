@@ -57,15 +57,5 @@ returns-2 c = search needs
 pub compile-and-run-spec : {M : Type 1} → statement M
 compile-and-run-spec =
     tie.close
-    (tie.spec
-    slice-aggregate-compile
-    slice-aggregate-compile-2
-    compile-requires
-    number-requires
-    number-requires-2
-    print-refusal-requires
-    returns
-    array-share-prefix-table
-    slice-aggregate-run-table
-    run-table-requires
-    returns-2)
+    (tie.spec slice-aggregate-compile slice-aggregate-compile-2 compile-requires number-requires number-requires-2
+    print-refusal-requires returns array-share-prefix-table slice-aggregate-run-table run-table-requires returns-2)

@@ -41,14 +41,5 @@ returns c = search needs
 pub print-ticks-spec : {M : Type 1} → statement M
 print-ticks-spec =
     tie.close
-    (tie.spec
-    Inv-loop
-    μ-loop
-    slice-aggregate-write-all
-    write-all-requires
-    loop-holds
-    print-tick-requires
-    add-i
-    loop-less
-    loop-again
-    returns)
+    (tie.spec Inv-loop μ-loop slice-aggregate-write-all write-all-requires loop-holds print-tick-requires add-i
+    loop-less loop-again returns)

@@ -49,13 +49,5 @@ returns-2 c = search needs
 pub run-table-spec : {M : Type 1} → statement M
 run-table-spec =
     tie.close
-    (tie.spec
-    slice-aggregate-run
-    run-requires
-    slice-aggregate-print-ticks
-    print-ticks-requires
-    number-requires
-    number-requires-2
-    print-refusal-requires
-    returns
-    returns-2)
+    (tie.spec slice-aggregate-run run-requires slice-aggregate-print-ticks print-ticks-requires number-requires
+    number-requires-2 print-refusal-requires returns returns-2)

@@ -29,11 +29,4 @@ returns-2 c = subst Within (sym (c .before .before .with-text .ensures)) (within
 pub after-byte-spec : {M : Type 1} → statement M
 after-byte-spec =
     tie.close
-    (tie.spec
-    shared-slice-read-if1
-    answered-requires
-    same-length
-    returns
-    with-text-requires
-    same-length-2
-    returns-2)
+    (tie.spec shared-slice-read-if1 answered-requires same-length returns with-text-requires same-length-2 returns-2)

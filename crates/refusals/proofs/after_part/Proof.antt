@@ -48,17 +48,5 @@ returns c = search needs
 pub after-part-spec : {M : Type 1} → statement M
 after-part-spec =
     tie.close
-    (tie.spec
-    Inv-loop
-    μ-loop
-    loop-holds
-    add-after-byte
-    sub-after-byte
-    part-after-byte-start
-    part-after-byte-end
-    after-byte-requires
-    add-i
-    loop-less
-    loop-again
-    same-length
-    returns)
+    (tie.spec Inv-loop μ-loop loop-holds add-after-byte sub-after-byte part-after-byte-start part-after-byte-end
+    after-byte-requires add-i loop-less loop-again same-length returns)

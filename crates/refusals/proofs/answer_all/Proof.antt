@@ -61,20 +61,6 @@ returns-2 c = search needs
 pub answer-all-spec : {M : Type 1} → statement M
 answer-all-spec =
     tie.close
-    (tie.spec
-    Inv-loop
-    μ-loop
-    start-requires
-    loop-holds
-    slice-aggregate-read-full
-    read-full-requires
-    same-length
-    returns
-    array-share-prefix-buf
-    slice-aggregate-after-part
-    after-part-requires
-    sub-turns
-    loop-less
-    loop-again
-    same-length-2
-    returns-2)
+    (tie.spec Inv-loop μ-loop start-requires loop-holds slice-aggregate-read-full read-full-requires same-length
+    returns array-share-prefix-buf slice-aggregate-after-part after-part-requires sub-turns loop-less loop-again
+    same-length-2 returns-2)

@@ -38,11 +38,5 @@ returns c = omega (arith, ap (λ (r : Reading). r .count) (c .start .ensures [])
 pub answered-spec : {M : Type 1} → statement M
 answered-spec =
     tie.close
-    (tie.spec
-    with-gap-requires
-    slice-reshare-prefix-answer
-    slice-aggregate-answer
-    answer-requires
-    start-requires
-    same-length
-    returns)
+    (tie.spec with-gap-requires slice-reshare-prefix-answer slice-aggregate-answer answer-requires start-requires
+    same-length returns)

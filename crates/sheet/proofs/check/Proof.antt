@@ -80,17 +80,5 @@ returns-7 c = let q = past-distinct c in rw (q .0, q .1, q .2, q .3, q .4, q .5)
 pub check-spec : {M : Type 1} → statement M
 check-spec =
     tie.close
-    (tie.spec
-    head-ok-requires
-    returns
-    modes-ok-requires
-    returns-2
-    pairs-ok-requires
-    returns-3
-    ends-ok-requires
-    returns-4
-    terms-ok-requires
-    returns-5
-    distinct-ok-requires
-    returns-6
-    returns-7)
+    (tie.spec head-ok-requires returns modes-ok-requires returns-2 pairs-ok-requires returns-3 ends-ok-requires
+    returns-4 terms-ok-requires returns-5 distinct-ok-requires returns-6 returns-7)

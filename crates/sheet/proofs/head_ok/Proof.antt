@@ -68,16 +68,5 @@ returns-3 c =
 pub head-ok-spec : {M : Type 1} → statement M
 head-ok-spec =
     tie.close
-    (tie.spec
-    returns
-    shared-slice-read-wide
-    wide-requires
-    shared-slice-read-k
-    shared-slice-read-wide-2
-    wide-requires-2
-    returns-2
-    mul-result
-    add-result
-    mul-result-2
-    add-result-2
-    returns-3)
+    (tie.spec returns shared-slice-read-wide wide-requires shared-slice-read-k shared-slice-read-wide-2
+    wide-requires-2 returns-2 mul-result add-result mul-result-2 add-result-2 returns-3)

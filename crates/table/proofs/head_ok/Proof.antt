@@ -81,19 +81,6 @@ returns-3 c =
 pub head-ok-spec : {M : Type 1} → statement M
 head-ok-spec =
     tie.close
-    (tie.spec
-    shared-slice-read-if2
-    returns
-    shared-slice-read-if3
-    shared-slice-read-if4
-    shared-slice-read-if5
-    shared-slice-read-if6
-    returns-2
-    shared-slice-read-result
-    cast-result
-    add-result
-    shared-slice-read-result-2
-    cast-result-2
-    mul-result
-    add-result-2
-    returns-3)
+    (tie.spec shared-slice-read-if2 returns shared-slice-read-if3 shared-slice-read-if4 shared-slice-read-if5
+    shared-slice-read-if6 returns-2 shared-slice-read-result cast-result add-result shared-slice-read-result-2
+    cast-result-2 mul-result add-result-2 returns-3)

@@ -96,20 +96,5 @@ returns-2 c =
 pub pairs-ok-spec : {M : Type 1} → statement M
 pairs-ok-spec =
     tie.close
-    (tie.spec
-    Inv-loop
-    μ-loop
-    block-count-requires
-    transition-count-requires
-    add-end
-    mul-end
-    add-end-2
-    loop-holds
-    offset-requires
-    returns
-    block-length-requires
-    add-end-3
-    add-b
-    loop-less
-    loop-again
-    returns-2)
+    (tie.spec Inv-loop μ-loop block-count-requires transition-count-requires add-end mul-end add-end-2 loop-holds
+    offset-requires returns block-length-requires add-end-3 add-b loop-less loop-again returns-2)

@@ -55,10 +55,4 @@ returns-2 c =
 pub table-ok-spec : {M : Type 1} → statement M
 table-ok-spec =
     tie.close
-    (tie.spec
-    head-ok-requires
-    timers-ok-requires
-    pairs-ok-requires
-    returns
-    blocks-ok-requires
-    returns-2)
+    (tie.spec head-ok-requires timers-ok-requires pairs-ok-requires returns blocks-ok-requires returns-2)

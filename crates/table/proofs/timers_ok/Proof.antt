@@ -65,17 +65,5 @@ returns-2 c =
 pub timers-ok-spec : {M : Type 1} → statement M
 timers-ok-spec =
     tie.close
-    (tie.spec
-    Inv-loop
-    μ-loop
-    transition-count-requires
-    loop-holds
-    add-timer-ok
-    mul-timer-ok
-    shared-slice-read-timer-ok
-    timer-ok-requires
-    returns
-    add-t
-    loop-less
-    loop-again
-    returns-2)
+    (tie.spec Inv-loop μ-loop transition-count-requires loop-holds add-timer-ok mul-timer-ok
+    shared-slice-read-timer-ok timer-ok-requires returns add-t loop-less loop-again returns-2)

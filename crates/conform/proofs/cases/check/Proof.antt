@@ -41,15 +41,5 @@ returns c = search needs
 pub check-spec : {M : Type 1} → statement M
 check-spec =
     tie.close
-    (tie.spec
-    number-requires
-    at-most-requires
-    slice-relend-prefix-numbers
-    slice-aggregate-numbers
-    numbers-requires
-    slice-reshare-prefix-check
-    slice-aggregate-check
-    check-requires
-    write-check-requires
-    same-length
-    returns)
+    (tie.spec number-requires at-most-requires slice-relend-prefix-numbers slice-aggregate-numbers numbers-requires
+    slice-reshare-prefix-check slice-aggregate-check check-requires write-check-requires same-length returns)

@@ -39,14 +39,5 @@ returns c = search needs
 pub digest-spec : {M : Type 1} → statement M
 digest-spec =
     tie.close
-    (tie.spec
-    Inv-loop
-    μ-loop
-    loop-holds
-    mul-with-word
-    shared-slice-read-with-word
-    with-word-requires
-    add-i
-    loop-less
-    loop-again
-    returns)
+    (tie.spec Inv-loop μ-loop loop-holds mul-with-word shared-slice-read-with-word with-word-requires add-i loop-less
+    loop-again returns)

@@ -51,18 +51,5 @@ returns c = search needs
 pub put-state-spec : {M : Type 1} → statement M
 put-state-spec =
     tie.close
-    (tie.spec
-    Inv-loop
-    μ-loop
-    cast-put
-    put-requires
-    loop-holds
-    mul-r
-    array-read-r
-    put-requires-2
-    cast-put-2
-    put-requires-3
-    add-t
-    loop-less
-    loop-again
-    returns)
+    (tie.spec Inv-loop μ-loop cast-put put-requires loop-holds mul-r array-read-r put-requires-2 cast-put-2
+    put-requires-3 add-t loop-less loop-again returns)

@@ -44,16 +44,5 @@ returns c = search needs
 pub read-pairs-spec : {M : Type 1} → statement M
 read-pairs-spec =
     tie.close
-    (tie.spec
-    Inv-loop
-    μ-loop
-    loop-holds
-    number-requires
-    number-requires-2
-    at-most-requires
-    mul-values
-    array-write-values
-    add-i
-    loop-less
-    loop-again
-    returns)
+    (tie.spec Inv-loop μ-loop loop-holds number-requires number-requires-2 at-most-requires mul-values
+    array-write-values add-i loop-less loop-again returns)

@@ -47,17 +47,6 @@ returns c = search needs
 pub read-run-spec : {M : Type 1} → statement M
 read-run-spec =
     tie.close
-    (tie.spec
-    number-requires
-    number-requires-2
-    at-most-requires
-    read-pairs-requires
-    number-requires-3
-    at-most-requires-2
-    slice-relend-prefix-numbers
-    slice-aggregate-numbers
-    numbers-requires
-    number-requires-4
-    at-most-requires-3
-    same-length
-    returns)
+    (tie.spec number-requires number-requires-2 at-most-requires read-pairs-requires number-requires-3
+    at-most-requires-2 slice-relend-prefix-numbers slice-aggregate-numbers numbers-requires number-requires-4
+    at-most-requires-3 same-length returns)

@@ -32,12 +32,5 @@ returns c = search needs
 pub sheet-run-spec : {M : Type 1} → statement M
 sheet-run-spec =
     tie.close
-    (tie.spec
-    slice-aggregate-read-run
-    read-run-requires
-    array-share-prefix-inputs
-    slice-aggregate-run-sheet
-    array-borrow-prefix-out
-    slice-aggregate-run-sheet-2
-    run-sheet-requires
-    returns)
+    (tie.spec slice-aggregate-read-run read-run-requires array-share-prefix-inputs slice-aggregate-run-sheet
+    array-borrow-prefix-out slice-aggregate-run-sheet-2 run-sheet-requires returns)

@@ -44,16 +44,6 @@ returns c = search needs
 pub compile-spec : {M : Type 1} → statement M
 compile-spec =
     tie.close
-    (tie.spec
-    number-requires
-    number-requires-2
-    at-most-requires
-    at-most-requires-2
-    slice-relend-prefix-compile-sheet
-    slice-aggregate-compile-sheet
-    array-borrow-prefix-work
-    slice-aggregate-compile-sheet-2
-    compile-sheet-requires
-    least-requires
-    same-length
-    returns)
+    (tie.spec number-requires number-requires-2 at-most-requires at-most-requires-2 slice-relend-prefix-compile-sheet
+    slice-aggregate-compile-sheet array-borrow-prefix-work slice-aggregate-compile-sheet-2 compile-sheet-requires
+    least-requires same-length returns)

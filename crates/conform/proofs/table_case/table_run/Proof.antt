@@ -32,12 +32,5 @@ returns c = search needs
 pub table-run-spec : {M : Type 1} → statement M
 table-run-spec =
     tie.close
-    (tie.spec
-    slice-aggregate-read-run
-    read-run-requires
-    array-share-prefix-inputs
-    slice-aggregate-run-table
-    array-borrow-prefix-out
-    slice-aggregate-run-table-2
-    run-table-requires
-    returns)
+    (tie.spec slice-aggregate-read-run read-run-requires array-share-prefix-inputs slice-aggregate-run-table
+    array-borrow-prefix-out slice-aggregate-run-table-2 run-table-requires returns)

@@ -30,11 +30,4 @@ returns c = search needs
 pub write-word-spec : {M : Type 1} → statement M
 write-word-spec =
     tie.close
-    (tie.spec
-    number-requires
-    number-requires-2
-    at-most-requires
-    mul-table
-    slice-write-table
-    same-length
-    returns)
+    (tie.spec number-requires number-requires-2 at-most-requires mul-table slice-write-table same-length returns)

@@ -49,18 +49,5 @@ returns-3 c = search needs
 pub number-spec : {M : Type 1} → statement M
 number-spec =
     tie.close
-    (tie.spec
-    Inv-loop
-    μ-loop
-    loop-holds
-    read-byte-requires
-    enum-known-got
-    enum-told
-    returns
-    digit-of-requires
-    with-digit-requires
-    returns-2
-    sub-turns
-    loop-less
-    loop-again
-    returns-3)
+    (tie.spec Inv-loop μ-loop loop-holds read-byte-requires enum-known-got enum-told returns digit-of-requires
+    with-digit-requires returns-2 sub-turns loop-less loop-again returns-3)

@@ -56,19 +56,5 @@ returns c = search needs
 pub put-spec : {M : Type 1} → statement M
 put-spec =
     tie.close
-    (tie.spec
-    Inv-loop
-    μ-loop
-    decimal-requires
-    element-write-line
-    loop-holds
-    array-read-line
-    add-line
-    add-line-2
-    element-write-line-2
-    add-i
-    loop-less
-    loop-again
-    add-result
-    add-result-2
-    returns)
+    (tie.spec Inv-loop μ-loop decimal-requires element-write-line loop-holds array-read-line add-line add-line-2
+    element-write-line-2 add-i loop-less loop-again add-result add-result-2 returns)

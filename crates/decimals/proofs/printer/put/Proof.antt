@@ -78,17 +78,5 @@ returns c =
 pub put-spec : {M : Type 1} → statement M
 put-spec =
     tie.close
-    (tie.spec
-    Inv-loop
-    μ-loop
-    decimal-requires
-    loop-holds
-    array-read-line
-    add-line
-    slice-write-line
-    add-i
-    loop-less
-    loop-again
-    add-result
-    same-length
-    returns)
+    (tie.spec Inv-loop μ-loop decimal-requires loop-holds array-read-line add-line slice-write-line add-i loop-less
+    loop-again add-result same-length returns)

@@ -75,18 +75,5 @@ returns c =
 pub put-row-spec : {M : Type 1} → statement M
 put-row-spec =
     tie.close
-    (tie.spec
-    Inv-loop
-    μ-loop
-    loop-holds
-    mul-put
-    shared-slice-read-put
-    put-requires
-    add-if1
-    slice-write-line
-    add-at
-    add-j
-    loop-less
-    loop-again
-    same-length
-    returns)
+    (tie.spec Inv-loop μ-loop loop-holds mul-put shared-slice-read-put put-requires add-if1 slice-write-line add-at
+    add-j loop-less loop-again same-length returns)

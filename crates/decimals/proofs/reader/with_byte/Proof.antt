@@ -51,11 +51,4 @@ returns-3 c =
 pub with-byte-spec : {M : Type 1} → statement M
 with-byte-spec =
     tie.close
-    (tie.spec
-    with-digit-requires
-    returns
-    with-gap-requires
-    same-length
-    returns-2
-    refused-requires
-    returns-3)
+    (tie.spec with-digit-requires returns with-gap-requires same-length returns-2 refused-requires returns-3)

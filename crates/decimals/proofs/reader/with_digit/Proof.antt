@@ -43,13 +43,4 @@ returns-2 c = λ (words : List ℕ).
 pub with-digit-spec : {M : Type 1} → statement M
 with-digit-spec =
     tie.close
-    (tie.spec
-    cast-longer
-    mul-longer
-    sub-longer
-    cast-longer-2
-    add-longer
-    cast-t9
-    returns
-    refused-requires
-    returns-2)
+    (tie.spec cast-longer mul-longer sub-longer cast-longer-2 add-longer cast-t9 returns refused-requires returns-2)

@@ -41,12 +41,4 @@ returns-3 c =
 pub with-gap-spec : {M : Type 1} → statement M
 with-gap-spec =
     tie.close
-    (tie.spec
-    returns
-    refused-requires
-    returns-2
-    mul-words
-    slice-write-words
-    add-t5
-    same-length
-    returns-3)
+    (tie.spec returns refused-requires returns-2 mul-words slice-write-words add-t5 same-length returns-3)

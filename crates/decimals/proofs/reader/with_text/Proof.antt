@@ -48,14 +48,5 @@ returns c =
 pub with-text-spec : {M : Type 1} → statement M
 with-text-spec =
     tie.close
-    (tie.spec
-    Inv-loop
-    μ-loop
-    loop-holds
-    shared-slice-read-with-byte
-    with-byte-requires
-    add-i
-    loop-less
-    loop-again
-    same-length
-    returns)
+    (tie.spec Inv-loop μ-loop loop-holds shared-slice-read-with-byte with-byte-requires add-i loop-less loop-again
+    same-length returns)

@@ -73,20 +73,6 @@ returns-3 c =
 pub request-ok-spec : {M : Type 1} → statement M
 request-ok-spec =
     tie.close
-    (tie.spec
-    shared-slice-read-if2
-    returns
-    shared-slice-read-sheet
-    cast-sheet
-    add-if3
-    add-if4
-    mul-if4
-    shared-slice-read-if4
-    returns-2
-    add-result
-    add-result-2
-    mul-result
-    shared-slice-read-result
-    cast-result
-    add-result-3
-    returns-3)
+    (tie.spec shared-slice-read-if2 returns shared-slice-read-sheet cast-sheet add-if3 add-if4 mul-if4
+    shared-slice-read-if4 returns-2 add-result add-result-2 mul-result shared-slice-read-result cast-result
+    add-result-3 returns-3)

@@ -35,10 +35,4 @@ returns c =
 pub tick-count-spec : {M : Type 1} → statement M
 tick-count-spec =
     tie.close
-    (tie.spec
-    sheet-length-requires
-    add-result
-    mul-result
-    shared-slice-read-result
-    cast-result
-    returns)
+    (tie.spec sheet-length-requires add-result mul-result shared-slice-read-result cast-result returns)

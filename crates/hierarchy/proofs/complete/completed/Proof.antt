@@ -33,11 +33,5 @@ returns-2 c = branch-of _ (sound _ (c .before .before .before .before .before .p
 pub completed-spec : {M : Type 1} → statement M
 completed-spec =
     tie.close
-    (tie.spec
-    is-serial-requires
-    single-requires
-    serial-below-requires
-    single-requires-2
-    parallel-below-requires
-    returns
-    returns-2)
+    (tie.spec is-serial-requires single-requires serial-below-requires single-requires-2 parallel-below-requires
+    returns returns-2)

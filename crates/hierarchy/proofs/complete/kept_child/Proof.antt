@@ -63,15 +63,5 @@ returns c =
 pub kept-child-spec : {M : Type 1} → statement M
 kept-child-spec =
     tie.close
-    (tie.spec
-    Inv-loop
-    μ-loop
-    mode-count-requires
-    first-requires
-    add-c
-    loop-holds
-    child-in-requires
-    add-c-2
-    loop-less
-    loop-again
-    returns)
+    (tie.spec Inv-loop μ-loop mode-count-requires first-requires add-c loop-holds child-in-requires add-c-2 loop-less
+    loop-again returns)

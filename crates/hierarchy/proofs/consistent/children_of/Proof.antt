@@ -63,14 +63,5 @@ returns c =
 pub children-of-spec : {M : Type 1} → statement M
 children-of-spec =
     tie.close
-    (tie.spec
-    Inv-loop
-    μ-loop
-    mode-count-requires
-    loop-holds
-    is-child-requires
-    single-requires
-    add-c
-    loop-less
-    loop-again
-    returns)
+    (tie.spec Inv-loop μ-loop mode-count-requires loop-holds is-child-requires single-requires add-c loop-less
+    loop-again returns)

@@ -62,11 +62,4 @@ returns-2 c =
 pub is-consistent-spec : {M : Type 1} → statement M
 is-consistent-spec =
     tie.close
-    (tie.spec
-    mode-count-requires
-    below-requires
-    within-requires
-    has-requires
-    returns
-    members-ok-requires
-    returns-2)
+    (tie.spec mode-count-requires below-requires within-requires has-requires returns members-ok-requires returns-2)

@@ -71,14 +71,5 @@ returns-4 c =
 pub member-ok-spec : {M : Type 1} → statement M
 member-ok-spec =
     tie.close
-    (tie.spec
-    parent-requires
-    has-requires
-    returns
-    children-of-requires
-    kind-requires
-    one-member-requires
-    within-requires
-    returns-2
-    returns-3
-    returns-4)
+    (tie.spec parent-requires has-requires returns children-of-requires kind-requires one-member-requires
+    within-requires returns-2 returns-3 returns-4)

@@ -75,14 +75,5 @@ returns-2 c =
 pub members-ok-spec : {M : Type 1} → statement M
 members-ok-spec =
     tie.close
-    (tie.spec
-    Inv-loop
-    μ-loop
-    loop-holds
-    lowest-requires
-    member-ok-requires
-    returns
-    without-lowest-requires
-    loop-less
-    loop-again
-    returns-2)
+    (tie.spec Inv-loop μ-loop loop-holds lowest-requires member-ok-requires returns without-lowest-requires loop-less
+    loop-again returns-2)

@@ -45,14 +45,4 @@ returns c = let l = c .before .loop in λ m h. l .inv .2 m (omega arith)
 pub alone-spec : {M : Type 1} → statement M
 alone-spec =
     tie.close
-    (tie.spec
-    Inv-loop
-    μ-loop
-    loop-holds
-    single-requires
-    mul-r
-    array-write-r
-    add-m
-    loop-less
-    loop-again
-    returns)
+    (tie.spec Inv-loop μ-loop loop-holds single-requires mul-r array-write-r add-m loop-less loop-again returns)

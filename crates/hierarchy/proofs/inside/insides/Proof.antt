@@ -78,19 +78,5 @@ returns c =
 pub insides-spec : {M : Type 1} → statement M
 insides-spec =
     tie.close
-    (tie.spec
-    Inv-loop
-    μ-loop
-    alone-requires
-    mode-count-requires
-    loop-holds
-    sub-m
-    parent-requires
-    mul-inside
-    array-read-inside
-    mul-inside-2
-    array-read-inside-2
-    array-write-inside
-    loop-less
-    loop-again
-    returns)
+    (tie.spec Inv-loop μ-loop alone-requires mode-count-requires loop-holds sub-m parent-requires mul-inside
+    array-read-inside mul-inside-2 array-read-inside-2 array-write-inside loop-less loop-again returns)

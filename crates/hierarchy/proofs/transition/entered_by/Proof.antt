@@ -43,10 +43,4 @@ returns c =
 pub entered-by-spec : {M : Type 1} → statement M
 entered-by-spec =
     tie.close
-    (tie.spec
-    target-requires
-    meeting-requires
-    child-holding-requires
-    path-requires
-    completed-requires
-    returns)
+    (tie.spec target-requires meeting-requires child-holding-requires path-requires completed-requires returns)

@@ -36,10 +36,4 @@ returns c =
 pub exited-by-spec : {M : Type 1} → statement M
 exited-by-spec =
     tie.close
-    (tie.spec
-    meeting-requires
-    source-requires
-    child-holding-requires
-    mul-result
-    element-copy-out-result
-    returns)
+    (tie.spec meeting-requires source-requires child-holding-requires mul-result element-copy-out-result returns)

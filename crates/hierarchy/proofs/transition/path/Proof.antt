@@ -55,13 +55,5 @@ returns c =
 pub path-spec : {M : Type 1} → statement M
 path-spec =
     tie.close
-    (tie.spec
-    Inv-loop
-    μ-loop
-    single-requires
-    loop-holds
-    parent-requires
-    single-requires-2
-    loop-less
-    loop-again
+    (tie.spec Inv-loop μ-loop single-requires loop-holds parent-requires single-requires-2 loop-less loop-again
     returns)

@@ -67,16 +67,5 @@ returns c =
 pub classes-of-spec : {M : Type 1} → statement M
 classes-of-spec =
     tie.close
-    (tie.spec
-    Inv-loop
-    μ-loop
-    transition-count-requires
-    loop-holds
-    is-timer-requires
-    single-if-requires
-    is-sure-requires
-    single-if-requires-2
-    add-t
-    loop-less
-    loop-again
-    returns)
+    (tie.spec Inv-loop μ-loop transition-count-requires loop-holds is-timer-requires single-if-requires
+    is-sure-requires single-if-requires-2 add-t loop-less loop-again returns)

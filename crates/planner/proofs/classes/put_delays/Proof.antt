@@ -51,15 +51,5 @@ returns c =
 pub put-delays-spec : {M : Type 1} → statement M
 put-delays-spec =
     tie.close
-    (tie.spec
-    Inv-loop
-    μ-loop
-    loop-holds
-    timer-delay-requires
-    add-plan
-    mul-plan
-    element-write-plan
-    add-t
-    loop-less
-    loop-again
-    returns)
+    (tie.spec Inv-loop μ-loop loop-holds timer-delay-requires add-plan mul-plan element-write-plan add-t loop-less
+    loop-again returns)

@@ -69,14 +69,5 @@ returns c =
 pub conflicts-of-spec : {M : Type 1} → statement M
 conflicts-of-spec =
     tie.close
-    (tie.spec
-    Inv-loop
-    μ-loop
-    transition-count-requires
-    loop-holds
-    is-conflict-requires
-    single-requires
-    add-u
-    loop-less
-    loop-again
-    returns)
+    (tie.spec Inv-loop μ-loop transition-count-requires loop-holds is-conflict-requires single-requires add-u
+    loop-less loop-again returns)

@@ -38,11 +38,5 @@ returns-2 c = rw (eq-eqb _ _ (c .if1 .left))
 pub is-conflict-spec : {M : Type 1} → statement M
 is-conflict-spec =
     tie.close
-    (tie.spec
-    mul-related
-    element-copy-out-related
-    mul-related-2
-    element-copy-out-related-2
-    related-requires
-    returns
+    (tie.spec mul-related element-copy-out-related mul-related-2 element-copy-out-related-2 related-requires returns
     returns-2)

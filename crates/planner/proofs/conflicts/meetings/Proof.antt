@@ -69,15 +69,5 @@ returns c =
 pub meetings-spec : {M : Type 1} → statement M
 meetings-spec =
     tie.close
-    (tie.spec
-    Inv-loop
-    μ-loop
-    transition-count-requires
-    loop-holds
-    meeting-requires
-    mul-r
-    array-write-r
-    add-t
-    loop-less
-    loop-again
-    returns)
+    (tie.spec Inv-loop μ-loop transition-count-requires loop-holds meeting-requires mul-r array-write-r add-t
+    loop-less loop-again returns)

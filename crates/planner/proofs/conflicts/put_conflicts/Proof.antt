@@ -67,17 +67,5 @@ returns c =
 pub put-conflicts-spec : {M : Type 1} → statement M
 put-conflicts-spec =
     tie.close
-    (tie.spec
-    Inv-loop
-    μ-loop
-    transition-count-requires
-    meetings-requires
-    loop-holds
-    conflicts-of-requires
-    add-plan
-    mul-plan
-    element-write-plan
-    add-t
-    loop-less
-    loop-again
-    returns)
+    (tie.spec Inv-loop μ-loop transition-count-requires meetings-requires loop-holds conflicts-of-requires add-plan
+    mul-plan element-write-plan add-t loop-less loop-again returns)

@@ -105,24 +105,6 @@ returns c =
 pub put-yielders-spec : {M : Type 1} → statement M
 put-yielders-spec =
     tie.close
-    (tie.spec
-    Inv-loop
-    μ-loop
-    transition-count-requires
-    loop-holds
-    source-requires
-    mul-minus
-    element-copy-out-minus
-    single-requires
-    minus-requires
-    from-set-requires
-    add-plan
-    mul-plan
-    element-copy-out-plan
-    add-plan-2
-    mul-plan-2
-    element-write-plan
-    add-t
-    loop-less
-    loop-again
-    returns)
+    (tie.spec Inv-loop μ-loop transition-count-requires loop-holds source-requires mul-minus element-copy-out-minus
+    single-requires minus-requires from-set-requires add-plan mul-plan element-copy-out-plan add-plan-2 mul-plan-2
+    element-write-plan add-t loop-less loop-again returns)

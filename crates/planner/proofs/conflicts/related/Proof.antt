@@ -30,12 +30,5 @@ returns-2 c = rw (← c .before .before .before .has .ensures, c .before .before
 pub related-spec : {M : Type 1} → statement M
 related-spec =
     tie.close
-    (tie.spec
-    mul-has
-    element-copy-out-has
-    has-requires
-    mul-has-2
-    element-copy-out-has-2
-    has-requires-2
-    returns
+    (tie.spec mul-has element-copy-out-has has-requires mul-has-2 element-copy-out-has-2 has-requires-2 returns
     returns-2)

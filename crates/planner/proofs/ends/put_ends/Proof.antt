@@ -89,22 +89,6 @@ returns c =
 pub put-ends-spec : {M : Type 1} → statement M
 put-ends-spec =
     tie.close
-    (tie.spec
-    Inv-loop
-    μ-loop
-    transition-count-requires
-    loop-holds
-    exited-by-requires
-    cast-plan
-    add-plan
-    mul-plan
-    element-write-plan
-    entered-by-requires
-    cast-plan-2
-    add-plan-2
-    mul-plan-2
-    element-write-plan-2
-    add-t
-    loop-less
-    loop-again
-    returns)
+    (tie.spec Inv-loop μ-loop transition-count-requires loop-holds exited-by-requires cast-plan add-plan mul-plan
+    element-write-plan entered-by-requires cast-plan-2 add-plan-2 mul-plan-2 element-write-plan-2 add-t loop-less
+    loop-again returns)

@@ -74,15 +74,5 @@ returns c =
 pub hits-of-spec : {M : Type 1} → statement M
 hits-of-spec =
     tie.close
-    (tie.spec
-    Inv-loop
-    μ-loop
-    facts-requires
-    loop-holds
-    lowest-requires
-    is-hit-requires
-    single-requires
-    without-lowest-requires
-    loop-less
-    loop-again
-    returns)
+    (tie.spec Inv-loop μ-loop facts-requires loop-holds lowest-requires is-hit-requires single-requires
+    without-lowest-requires loop-less loop-again returns)

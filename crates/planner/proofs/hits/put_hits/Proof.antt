@@ -81,18 +81,5 @@ returns c =
 pub put-hits-spec : {M : Type 1} → statement M
 put-hits-spec =
     tie.close
-    (tie.spec
-    Inv-loop
-    μ-loop
-    event-count-requires
-    shl-count
-    loop-holds
-    hits-of-requires
-    wide-requires
-    add-plan
-    mul-plan
-    element-write-plan
-    add-i
-    loop-less
-    loop-again
-    returns)
+    (tie.spec Inv-loop μ-loop event-count-requires shl-count loop-holds hits-of-requires wide-requires add-plan
+    mul-plan element-write-plan add-i loop-less loop-again returns)

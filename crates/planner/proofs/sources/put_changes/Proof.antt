@@ -78,18 +78,5 @@ returns c =
 pub put-changes-spec : {M : Type 1} → statement M
 put-changes-spec =
     tie.close
-    (tie.spec
-    Inv-loop
-    μ-loop
-    transition-count-requires
-    loop-holds
-    add-mode-set
-    mode-set-requires
-    from-set-requires
-    add-plan
-    mul-plan
-    element-write-plan
-    add-t
-    loop-less
-    loop-again
-    returns)
+    (tie.spec Inv-loop μ-loop transition-count-requires loop-holds add-mode-set mode-set-requires from-set-requires
+    add-plan mul-plan element-write-plan add-t loop-less loop-again returns)

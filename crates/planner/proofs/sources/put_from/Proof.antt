@@ -80,18 +80,5 @@ returns c =
 pub put-from-spec : {M : Type 1} → statement M
 put-from-spec =
     tie.close
-    (tie.spec
-    Inv-loop
-    μ-loop
-    transition-count-requires
-    loop-holds
-    source-requires
-    single-requires
-    add-plan
-    mul-plan
-    element-copy-out-plan
-    element-write-plan
-    add-t
-    loop-less
-    loop-again
-    returns)
+    (tie.spec Inv-loop μ-loop transition-count-requires loop-holds source-requires single-requires add-plan mul-plan
+    element-copy-out-plan element-write-plan add-t loop-less loop-again returns)

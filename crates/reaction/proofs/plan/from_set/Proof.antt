@@ -62,15 +62,5 @@ returns c =
 pub from-set-spec : {M : Type 1} → statement M
 from-set-spec =
     tie.close
-    (tie.spec
-    Inv-loop
-    μ-loop
-    loop-holds
-    lowest-requires
-    add-r
-    mul-r
-    element-copy-out-r
-    without-lowest-requires
-    loop-less
-    loop-again
-    returns)
+    (tie.spec Inv-loop μ-loop loop-holds lowest-requires add-r mul-r element-copy-out-r without-lowest-requires
+    loop-less loop-again returns)

@@ -56,16 +56,5 @@ returns c =
 pub timer-delays-spec : {M : Type 1} → statement M
 timer-delays-spec =
     tie.close
-    (tie.spec
-    Inv-loop
-    μ-loop
-    loop-holds
-    add-r
-    mul-r
-    element-copy-out-r
-    mul-r-2
-    array-write-r
-    add-t
-    loop-less
-    loop-again
-    returns)
+    (tie.spec Inv-loop μ-loop loop-holds add-r mul-r element-copy-out-r mul-r-2 array-write-r add-t loop-less
+    loop-again returns)

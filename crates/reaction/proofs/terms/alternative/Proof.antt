@@ -148,28 +148,6 @@ returns-3 c =
 pub alternative-spec : {M : Type 1} → statement M
 alternative-spec =
     tie.close
-    (tie.spec
-    Inv-loop
-    μ-loop
-    term-count-requires
-    offset-requires
-    add-at
-    loop-holds
-    mul-wide
-    add-wide
-    mul-wide-2
-    shared-slice-read-wide
-    wide-requires
-    returns
-    add-a
-    mul-holds
-    add-holds
-    add-holds-2
-    mul-holds-2
-    shared-slice-read-holds
-    holds-requires
-    add-j
-    loop-less
-    loop-again
-    returns-2
-    returns-3)
+    (tie.spec Inv-loop μ-loop term-count-requires offset-requires add-at loop-holds mul-wide add-wide mul-wide-2
+    shared-slice-read-wide wide-requires returns add-a mul-holds add-holds add-holds-2 mul-holds-2
+    shared-slice-read-holds holds-requires add-j loop-less loop-again returns-2 returns-3)

@@ -73,14 +73,5 @@ returns-2 c =
 pub events-only-spec : {M : Type 1} → statement M
 events-only-spec =
     tie.close
-    (tie.spec
-    Inv-loop
-    μ-loop
-    term-count-requires
-    loop-holds
-    term-kind-requires
-    returns
-    add-j
-    loop-less
-    loop-again
+    (tie.spec Inv-loop μ-loop term-count-requires loop-holds term-kind-requires returns add-j loop-less loop-again
     returns-2)

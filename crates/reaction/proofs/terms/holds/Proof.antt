@@ -32,10 +32,4 @@ returns-2 c =
 pub holds-spec : {M : Type 1} → statement M
 holds-spec =
     tie.close
-    (tie.spec
-    element-copy-out-result
-    returns
-    mul-result
-    element-copy-out-result-2
-    shr-result
-    returns-2)
+    (tie.spec element-copy-out-result returns mul-result element-copy-out-result-2 shr-result returns-2)

@@ -80,14 +80,5 @@ returns c =
 pub judged-spec : {M : Type 1} → statement M
 judged-spec =
     tie.close
-    (tie.spec
-    Inv-loop
-    μ-loop
-    loop-holds
-    lowest-requires
-    alternative-requires
-    single-requires
-    without-lowest-requires
-    loop-less
-    loop-again
-    returns)
+    (tie.spec Inv-loop μ-loop loop-holds lowest-requires alternative-requires single-requires without-lowest-requires
+    loop-less loop-again returns)

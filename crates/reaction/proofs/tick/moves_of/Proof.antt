@@ -54,13 +54,5 @@ returns c =
 pub moves-of-spec : {M : Type 1} → statement M
 moves-of-spec =
     tie.close
-    (tie.spec
-    Inv-loop
-    μ-loop
-    loop-holds
-    lowest-requires
-    with-move-requires
-    without-lowest-requires
-    loop-less
-    loop-again
-    returns)
+    (tie.spec Inv-loop μ-loop loop-holds lowest-requires with-move-requires without-lowest-requires loop-less
+    loop-again returns)

@@ -121,26 +121,6 @@ returns-4 c =
 pub rounds-spec : {M : Type 1} → statement M
 rounds-spec =
     tie.close
-    (tie.spec
-    Inv-loop
-    μ-loop
-    transition-count-requires
-    loop-holds
-    wide-requires
-    triggered-requires
-    eligible-requires
-    ended-requires
-    returns
-    moves-of-requires
-    meets-requires
-    ended-requires-2
-    returns-2
-    meets-requires-2
-    ended-requires-3
-    returns-3
-    after-round-requires
-    add-r
-    loop-less
-    loop-again
-    ended-requires-4
-    returns-4)
+    (tie.spec Inv-loop μ-loop transition-count-requires loop-holds wide-requires triggered-requires eligible-requires
+    ended-requires returns moves-of-requires meets-requires ended-requires-2 returns-2 meets-requires-2
+    ended-requires-3 returns-3 after-round-requires add-r loop-less loop-again ended-requires-4 returns-4)

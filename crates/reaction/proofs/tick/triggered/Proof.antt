@@ -56,13 +56,5 @@ returns-2 c =
 pub triggered-spec : {M : Type 1} → statement M
 triggered-spec =
     tie.close
-    (tie.spec
-    wide-requires
-    add-sure
-    mul-sure
-    element-copy-out-sure
-    element-copy-out-mixed
-    returns
-    facts-requires
-    judged-requires
-    returns-2)
+    (tie.spec wide-requires add-sure mul-sure element-copy-out-sure element-copy-out-mixed returns facts-requires
+    judged-requires returns-2)

@@ -70,11 +70,4 @@ returns-2 c =
 pub state-ok-spec : {M : Type 1} → statement M
 state-ok-spec =
     tie.close
-    (tie.spec
-    cast-b
-    block-count-requires
-    returns
-    offset-requires
-    timers-at-requires
-    readings-ok-requires
-    returns-2)
+    (tie.spec cast-b block-count-requires returns offset-requires timers-at-requires readings-ok-requires returns-2)

@@ -91,16 +91,5 @@ returns-4 c =
 pub run-spec : {M : Type 1} → statement M
 run-spec =
     tie.close
-    (tie.spec
-    table-ok-requires
-    stops-requires
-    returns
-    delays-requires
-    state-ok-requires
-    stops-requires-2
-    returns-2
-    stops-requires-3
-    returns-3
-    ticks-requires
-    same-length
-    returns-4)
+    (tie.spec table-ok-requires stops-requires returns delays-requires state-ok-requires stops-requires-2 returns-2
+    stops-requires-3 returns-3 ticks-requires same-length returns-4)

@@ -337,45 +337,9 @@ returns-3 c =
 pub ticks-spec : {M : Type 1} → statement M
 ticks-spec =
     tie.close
-    (tie.spec
-    Inv-loop
-    μ-loop
-    event-count-requires
-    timers-from-requires
-    sources-requires
-    deadlines-requires
-    block-at-requires
-    loop-holds
-    mul-input
-    shared-slice-read-input
-    shr-if1
-    ended-requires
-    same-length
-    returns
-    add-now
-    due-requires
-    cell-number-requires
-    mul-cell
-    add-cell
-    mul-next
-    shared-slice-read-next
-    add-entered
-    mul-entered
-    shared-slice-read-entered
-    block-at-requires-2
-    started-requires
-    minus-requires
-    is-stale-requires
-    ended-requires-2
-    same-length-2
-    returns-2
-    restart-requires
-    mul-put-five
-    five-at-requires
-    put-five-requires
-    add-i
-    loop-less
-    loop-again
-    ended-requires-3
-    same-length-3
-    returns-3)
+    (tie.spec Inv-loop μ-loop event-count-requires timers-from-requires sources-requires deadlines-requires
+    block-at-requires loop-holds mul-input shared-slice-read-input shr-if1 ended-requires same-length returns add-now
+    due-requires cell-number-requires mul-cell add-cell mul-next shared-slice-read-next add-entered mul-entered
+    shared-slice-read-entered block-at-requires-2 started-requires minus-requires is-stale-requires ended-requires-2
+    same-length-2 returns-2 restart-requires mul-put-five five-at-requires put-five-requires add-i loop-less
+    loop-again ended-requires-3 same-length-3 returns-3)

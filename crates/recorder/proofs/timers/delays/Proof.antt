@@ -60,15 +60,5 @@ returns c =
 pub delays-spec : {M : Type 1} → statement M
 delays-spec =
     tie.close
-    (tie.spec
-    Inv-loop
-    μ-loop
-    transition-count-requires
-    loop-holds
-    timer-delay-requires
-    mul-r
-    array-write-r
-    add-t
-    loop-less
-    loop-again
-    returns)
+    (tie.spec Inv-loop μ-loop transition-count-requires loop-holds timer-delay-requires mul-r array-write-r add-t
+    loop-less loop-again returns)

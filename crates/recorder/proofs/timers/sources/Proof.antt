@@ -64,14 +64,5 @@ returns c =
 pub sources-spec : {M : Type 1} → statement M
 sources-spec =
     tie.close
-    (tie.spec
-    Inv-loop
-    μ-loop
-    loop-holds
-    mul-if1
-    element-copy-out-if1
-    single-requires
-    add-m
-    loop-less
-    loop-again
+    (tie.spec Inv-loop μ-loop loop-holds mul-if1 element-copy-out-if1 single-requires add-m loop-less loop-again
     returns)

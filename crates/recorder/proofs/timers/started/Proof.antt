@@ -57,14 +57,5 @@ returns c =
 pub started-spec : {M : Type 1} → statement M
 started-spec =
     tie.close
-    (tie.spec
-    Inv-loop
-    μ-loop
-    loop-holds
-    lowest-requires
-    mul-r
-    element-copy-out-r
-    without-lowest-requires
-    loop-less
-    loop-again
-    returns)
+    (tie.spec Inv-loop μ-loop loop-holds lowest-requires mul-r element-copy-out-r without-lowest-requires loop-less
+    loop-again returns)

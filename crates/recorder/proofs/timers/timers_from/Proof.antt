@@ -102,19 +102,5 @@ returns c =
 pub timers-from-spec : {M : Type 1} → statement M
 timers-from-spec =
     tie.close
-    (tie.spec
-    Inv-loop
-    μ-loop
-    transition-count-requires
-    loop-holds
-    timer-delay-requires
-    timer-source-requires
-    mul-r
-    array-read-r
-    single-requires
-    mul-r-2
-    array-write-r
-    add-t
-    loop-less
-    loop-again
-    returns)
+    (tie.spec Inv-loop μ-loop transition-count-requires loop-holds timer-delay-requires timer-source-requires mul-r
+    array-read-r single-requires mul-r-2 array-write-r add-t loop-less loop-again returns)

@@ -57,16 +57,5 @@ returns c =
 pub deadlines-spec : {M : Type 1} → statement M
 deadlines-spec =
     tie.close
-    (tie.spec
-    Inv-loop
-    μ-loop
-    loop-holds
-    mul-r
-    array-read-r
-    cast-r
-    mul-r-2
-    array-write-r
-    add-t
-    loop-less
-    loop-again
+    (tie.spec Inv-loop μ-loop loop-holds mul-r array-read-r cast-r mul-r-2 array-write-r add-t loop-less loop-again
     returns)

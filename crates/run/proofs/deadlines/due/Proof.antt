@@ -78,18 +78,5 @@ returns c =
 pub due-spec : {M : Type 1} → statement M
 due-spec =
     tie.close
-    (tie.spec
-    Inv-loop
-    μ-loop
-    loop-holds
-    lowest-requires
-    mul-is-due
-    element-copy-out-is-due
-    single-if-requires
-    single-if-requires-2
-    add-number
-    add-place
-    without-lowest-requires
-    loop-less
-    loop-again
-    returns)
+    (tie.spec Inv-loop μ-loop loop-holds lowest-requires mul-is-due element-copy-out-is-due single-if-requires
+    single-if-requires-2 add-number add-place without-lowest-requires loop-less loop-again returns)

@@ -87,18 +87,5 @@ returns c =
 pub readings-at-spec : {M : Type 1} → statement M
 readings-at-spec =
     tie.close
-    (tie.spec
-    Inv-loop
-    μ-loop
-    loop-holds
-    lowest-requires
-    mul-r
-    element-copy-out-r
-    sub-r
-    cast-r
-    mul-r-2
-    array-write-r
-    without-lowest-requires
-    loop-less
-    loop-again
-    returns)
+    (tie.spec Inv-loop μ-loop loop-holds lowest-requires mul-r element-copy-out-r sub-r cast-r mul-r-2 array-write-r
+    without-lowest-requires loop-less loop-again returns)

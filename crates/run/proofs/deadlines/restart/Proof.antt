@@ -72,17 +72,5 @@ returns c =
 pub restart-spec : {M : Type 1} → statement M
 restart-spec =
     tie.close
-    (tie.spec
-    Inv-loop
-    μ-loop
-    loop-holds
-    lowest-requires
-    mul-ends
-    element-copy-out-ends
-    add-ends
-    mul-ends-2
-    element-write-ends
-    without-lowest-requires
-    loop-less
-    loop-again
-    returns)
+    (tie.spec Inv-loop μ-loop loop-holds lowest-requires mul-ends element-copy-out-ends add-ends mul-ends-2
+    element-write-ends without-lowest-requires loop-less loop-again returns)

@@ -66,17 +66,5 @@ returns c =
 pub from-words-spec : {M : Type 1} → statement M
 from-words-spec =
     tie.close
-    (tie.spec
-    Inv-loop
-    μ-loop
-    loop-holds
-    add-readings
-    mul-readings
-    shared-slice-read-readings
-    mul-readings-2
-    array-write-readings
-    add-t
-    loop-less
-    loop-again
-    shared-slice-read-t13
-    returns)
+    (tie.spec Inv-loop μ-loop loop-holds add-readings mul-readings shared-slice-read-readings mul-readings-2
+    array-write-readings add-t loop-less loop-again shared-slice-read-t13 returns)

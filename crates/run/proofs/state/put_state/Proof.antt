@@ -75,18 +75,5 @@ returns c =
 pub put-state-spec : {M : Type 1} → statement M
 put-state-spec =
     tie.close
-    (tie.spec
-    Inv-loop
-    μ-loop
-    slice-write-words
-    loop-holds
-    mul-words
-    array-read-words
-    add-words
-    mul-words-2
-    slice-write-words-2
-    add-t
-    loop-less
-    loop-again
-    same-length
-    returns)
+    (tie.spec Inv-loop μ-loop slice-write-words loop-holds mul-words array-read-words add-words mul-words-2
+    slice-write-words-2 add-t loop-less loop-again same-length returns)

@@ -90,18 +90,5 @@ returns-2 c =
 pub readings-ok-spec : {M : Type 1} → statement M
 readings-ok-spec =
     tie.close
-    (tie.spec
-    Inv-loop
-    μ-loop
-    loop-holds
-    has-requires
-    mul-reading-ok
-    element-copy-out-reading-ok
-    mul-reading-ok-2
-    element-copy-out-reading-ok-2
-    reading-ok-requires
-    returns
-    add-t
-    loop-less
-    loop-again
-    returns-2)
+    (tie.spec Inv-loop μ-loop loop-holds has-requires mul-reading-ok element-copy-out-reading-ok mul-reading-ok-2
+    element-copy-out-reading-ok-2 reading-ok-requires returns add-t loop-less loop-again returns-2)

@@ -54,14 +54,5 @@ returns-2 c =
 pub distinct-ok-spec : {M : Type 1} → statement M
 distinct-ok-spec =
     tie.close
-    (tie.spec
-    Inv-loop
-    μ-loop
-    transition-count-requires
-    loop-holds
-    shares-ends-requires
-    returns
-    add-t
-    loop-less
-    loop-again
-    returns-2)
+    (tie.spec Inv-loop μ-loop transition-count-requires loop-holds shares-ends-requires returns add-t loop-less
+    loop-again returns-2)

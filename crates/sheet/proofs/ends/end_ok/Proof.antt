@@ -68,14 +68,5 @@ returns-3 c =
 pub end-ok-spec : {M : Type 1} → statement M
 end-ok-spec =
     tie.close
-    (tie.spec
-    mode-count-requires
-    source-requires
-    target-requires
-    returns
-    contains-requires
-    contains-requires-2
-    returns-2
-    meeting-requires
-    is-serial-requires
-    returns-3)
+    (tie.spec mode-count-requires source-requires target-requires returns contains-requires contains-requires-2
+    returns-2 meeting-requires is-serial-requires returns-3)

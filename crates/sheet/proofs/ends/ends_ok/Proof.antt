@@ -54,14 +54,5 @@ returns-2 c =
 pub ends-ok-spec : {M : Type 1} → statement M
 ends-ok-spec =
     tie.close
-    (tie.spec
-    Inv-loop
-    μ-loop
-    transition-count-requires
-    loop-holds
-    end-ok-requires
-    returns
-    add-t
-    loop-less
-    loop-again
+    (tie.spec Inv-loop μ-loop transition-count-requires loop-holds end-ok-requires returns add-t loop-less loop-again
     returns-2)

@@ -78,16 +78,5 @@ returns-2 c =
 pub shares-ends-spec : {M : Type 1} → statement M
 shares-ends-spec =
     tie.close
-    (tie.spec
-    Inv-loop
-    μ-loop
-    source-requires
-    target-requires
-    loop-holds
-    source-requires-2
-    target-requires-2
-    returns
-    add-u
-    loop-less
-    loop-again
-    returns-2)
+    (tie.spec Inv-loop μ-loop source-requires target-requires loop-holds source-requires-2 target-requires-2 returns
+    add-u loop-less loop-again returns-2)

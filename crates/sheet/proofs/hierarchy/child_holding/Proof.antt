@@ -57,12 +57,4 @@ returns c =
 pub child-holding-spec : {M : Type 1} → statement M
 child-holding-spec =
     tie.close
-    (tie.spec
-    Inv-loop
-    μ-loop
-    parent-requires
-    loop-holds
-    parent-requires-2
-    loop-less
-    loop-again
-    returns)
+    (tie.spec Inv-loop μ-loop parent-requires loop-holds parent-requires-2 loop-less loop-again returns)

@@ -58,14 +58,5 @@ returns-2 c =
 pub meeting-of-spec : {M : Type 1} → statement M
 meeting-of-spec =
     tie.close
-    (tie.spec
-    Inv-loop
-    μ-loop
-    parent-requires
-    loop-holds
-    strictly-contains-requires
-    parent-requires-2
-    loop-less
-    loop-again
-    returns
-    returns-2)
+    (tie.spec Inv-loop μ-loop parent-requires loop-holds strictly-contains-requires parent-requires-2 loop-less
+    loop-again returns returns-2)

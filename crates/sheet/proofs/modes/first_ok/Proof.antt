@@ -35,11 +35,4 @@ returns-3 c = rw (ne-eqb _ _ (λ k. c .if1 .left (c .before .kind .ensures ∙ k
 pub first-ok-spec : {M : Type 1} → statement M
 first-ok-spec =
     tie.close
-    (tie.spec
-    first-requires
-    kind-requires
-    mode-count-requires
-    is-child-requires
-    returns
-    returns-2
-    returns-3)
+    (tie.spec first-requires kind-requires mode-count-requires is-child-requires returns returns-2 returns-3)

@@ -50,14 +50,5 @@ returns-2 c =
 pub has-child-spec : {M : Type 1} → statement M
 has-child-spec =
     tie.close
-    (tie.spec
-    Inv-loop
-    μ-loop
-    mode-count-requires
-    loop-holds
-    is-child-requires
-    returns
-    add-c
-    loop-less
-    loop-again
+    (tie.spec Inv-loop μ-loop mode-count-requires loop-holds is-child-requires returns add-c loop-less loop-again
     returns-2)

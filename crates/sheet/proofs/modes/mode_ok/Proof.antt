@@ -67,11 +67,4 @@ returns-3 c =
 pub mode-ok-spec : {M : Type 1} → statement M
 mode-ok-spec =
     tie.close
-    (tie.spec
-    kind-requires
-    parent-ok-requires
-    first-ok-requires
-    returns
-    has-child-requires
-    returns-2
-    returns-3)
+    (tie.spec kind-requires parent-ok-requires first-ok-requires returns has-child-requires returns-2 returns-3)

@@ -52,14 +52,5 @@ returns-2 c =
 pub modes-ok-spec : {M : Type 1} → statement M
 modes-ok-spec =
     tie.close
-    (tie.spec
-    Inv-loop
-    μ-loop
-    mode-count-requires
-    loop-holds
-    mode-ok-requires
-    returns
-    add-m
-    loop-less
-    loop-again
+    (tie.spec Inv-loop μ-loop mode-count-requires loop-holds mode-ok-requires returns add-m loop-less loop-again
     returns-2)

@@ -41,12 +41,5 @@ returns-2 c = rw (c .before .offset .ensures, c .record-length .ensures) (sym (e
 pub end-before-spec : {M : Type 1} → statement M
 end-before-spec =
     tie.close
-    (tie.spec
-    records-start-requires
-    returns
-    sub-offset
-    offset-requires
-    sub-record-length
-    record-length-requires
-    add-result
-    returns-2)
+    (tie.spec records-start-requires returns sub-offset offset-requires sub-record-length record-length-requires
+    add-result returns-2)

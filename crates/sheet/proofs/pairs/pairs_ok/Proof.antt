@@ -58,15 +58,5 @@ returns-2 c =
 pub pairs-ok-spec : {M : Type 1} → statement M
 pairs-ok-spec =
     tie.close
-    (tie.spec
-    Inv-loop
-    μ-loop
-    transition-count-requires
-    loop-holds
-    pair-ok-requires
-    returns
-    add-t
-    loop-less
-    loop-again
-    end-before-requires
-    returns-2)
+    (tie.spec Inv-loop μ-loop transition-count-requires loop-holds pair-ok-requires returns add-t loop-less loop-again
+    end-before-requires returns-2)

@@ -52,14 +52,5 @@ returns-2 c =
 pub record-ok-spec : {M : Type 1} → statement M
 record-ok-spec =
     tie.close
-    (tie.spec
-    Inv-loop
-    μ-loop
-    term-count-requires
-    loop-holds
-    term-ok-requires
-    returns
-    add-j
-    loop-less
-    loop-again
+    (tie.spec Inv-loop μ-loop term-count-requires loop-holds term-ok-requires returns add-j loop-less loop-again
     returns-2)

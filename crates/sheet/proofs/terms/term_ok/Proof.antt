@@ -77,23 +77,6 @@ returns-8 c =
 pub term-ok-spec : {M : Type 1} → statement M
 term-ok-spec =
     tie.close
-    (tie.spec
-    term-value-requires
-    term-kind-requires
-    term-count-requires
-    mode-count-requires
-    mask-ok-requires
-    wide-requires
-    transition-count-requires
-    or-ok-requires
-    event-count-requires
-    wide-requires-2
-    mode-count-requires-2
-    returns
-    returns-2
-    returns-3
-    returns-4
-    returns-5
-    returns-6
-    returns-7
-    returns-8)
+    (tie.spec term-value-requires term-kind-requires term-count-requires mode-count-requires mask-ok-requires
+    wide-requires transition-count-requires or-ok-requires event-count-requires wide-requires-2 mode-count-requires-2
+    returns returns-2 returns-3 returns-4 returns-5 returns-6 returns-7 returns-8)

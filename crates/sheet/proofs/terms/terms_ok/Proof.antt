@@ -55,14 +55,5 @@ returns-2 c =
 pub terms-ok-spec : {M : Type 1} → statement M
 terms-ok-spec =
     tie.close
-    (tie.spec
-    Inv-loop
-    μ-loop
-    transition-count-requires
-    loop-holds
-    record-ok-requires
-    returns
-    add-t
-    loop-less
-    loop-again
-    returns-2)
+    (tie.spec Inv-loop μ-loop transition-count-requires loop-holds record-ok-requires returns add-t loop-less
+    loop-again returns-2)

@@ -37,13 +37,5 @@ returns c = rw (c .before .before .mode-count .ensures) at (c .wide .ensures)
 pub offset-spec : {M : Type 1} → statement M
 offset-spec =
     tie.close
-    (tie.spec
-    mode-count-requires
-    mul-wide
-    add-wide
-    mul-wide-2
-    add-wide-2
-    mul-wide-3
-    shared-slice-read-wide
-    wide-requires
-    returns)
+    (tie.spec mode-count-requires mul-wide add-wide mul-wide-2 add-wide-2 mul-wide-3 shared-slice-read-wide
+    wide-requires returns)

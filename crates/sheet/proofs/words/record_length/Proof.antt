@@ -37,13 +37,5 @@ returns c = rw (c .before .before .mode-count .ensures) at (c .wide .ensures)
 pub record-length-spec : {M : Type 1} → statement M
 record-length-spec =
     tie.close
-    (tie.spec
-    mode-count-requires
-    mul-wide
-    add-wide
-    mul-wide-2
-    add-wide-2
-    mul-wide-3
-    shared-slice-read-wide
-    wide-requires
-    returns)
+    (tie.spec mode-count-requires mul-wide add-wide mul-wide-2 add-wide-2 mul-wide-3 shared-slice-read-wide
+    wide-requires returns)

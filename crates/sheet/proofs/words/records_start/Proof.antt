@@ -29,11 +29,4 @@ returns c = search needs
 pub records-start-spec : {M : Type 1} → statement M
 records-start-spec =
     tie.close
-    (tie.spec
-    mode-count-requires
-    mul-result
-    add-result
-    transition-count-requires
-    mul-result-2
-    add-result-2
-    returns)
+    (tie.spec mode-count-requires mul-result add-result transition-count-requires mul-result-2 add-result-2 returns)

@@ -31,11 +31,4 @@ returns c = rw (c .before .offset .ensures)
 pub term-kind-spec : {M : Type 1} → statement M
 term-kind-spec =
     tie.close
-    (tie.spec
-    offset-requires
-    add-result
-    mul-result
-    add-result-2
-    mul-result-2
-    shared-slice-read-result
-    returns)
+    (tie.spec offset-requires add-result mul-result add-result-2 mul-result-2 shared-slice-read-result returns)

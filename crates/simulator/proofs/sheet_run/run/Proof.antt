@@ -113,18 +113,5 @@ returns-4 c =
 pub run-spec : {M : Type 1} → statement M
 run-spec =
     tie.close
-    (tie.spec
-    check-requires
-    number-requires
-    stops-requires
-    returns
-    planned-requires
-    timer-delays-requires
-    state-ok-requires
-    stops-requires-2
-    returns-2
-    stops-requires-3
-    returns-3
-    ticks-requires
-    same-length
-    returns-4)
+    (tie.spec check-requires number-requires stops-requires returns planned-requires timer-delays-requires
+    state-ok-requires stops-requires-2 returns-2 stops-requires-3 returns-3 ticks-requires same-length returns-4)

@@ -284,36 +284,8 @@ returns-3 c =
 pub ticks-spec : {M : Type 1} → statement M
 ticks-spec =
     tie.close
-    (tie.spec
-    Inv-loop
-    μ-loop
-    element-copy-out-timers
-    event-count-requires
-    deadlines-requires
-    from-set-requires
-    loop-holds
-    mul-input
-    shared-slice-read-input
-    shr-if1
-    ended-requires
-    same-length
-    returns
-    add-now
-    due-requires
-    tick-requires
-    number-requires
-    ended-requires-2
-    same-length-2
-    returns-2
-    from-set-requires-2
-    restart-requires
-    mul-put-five
-    five-words-requires
-    put-five-requires
-    with-rounds-requires
-    add-i
-    loop-less
-    loop-again
-    ended-requires-3
-    same-length-3
-    returns-3)
+    (tie.spec Inv-loop μ-loop element-copy-out-timers event-count-requires deadlines-requires from-set-requires
+    loop-holds mul-input shared-slice-read-input shr-if1 ended-requires same-length returns add-now due-requires
+    tick-requires number-requires ended-requires-2 same-length-2 returns-2 from-set-requires-2 restart-requires
+    mul-put-five five-words-requires put-five-requires with-rounds-requires add-i loop-less loop-again
+    ended-requires-3 same-length-3 returns-3)

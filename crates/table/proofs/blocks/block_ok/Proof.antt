@@ -172,26 +172,7 @@ returns-4 c =
 pub block-ok-spec : {M : Type 1} → statement M
 block-ok-spec =
     tie.close
-    (tie.spec
-    offset-requires
-    block-length-requires
-    returns
-    timers-at-requires
-    size-requires
-    mask-ok-requires
-    minus-requires
-    returns-2
-    event-count-requires
-    cell-count-requires
-    mul-if5
-    add-if5
-    returns-3
-    add-cells-ok
-    add-cells-ok-2
-    mul-cells-ok
-    sub-cells-ok
-    part-cells-ok-start
-    part-cells-ok-end
-    shared-slice-read-cells-ok
-    cells-ok-requires
-    returns-4)
+    (tie.spec offset-requires block-length-requires returns timers-at-requires size-requires mask-ok-requires
+    minus-requires returns-2 event-count-requires cell-count-requires mul-if5 add-if5 returns-3 add-cells-ok
+    add-cells-ok-2 mul-cells-ok sub-cells-ok part-cells-ok-start part-cells-ok-end shared-slice-read-cells-ok
+    cells-ok-requires returns-4)

@@ -55,15 +55,5 @@ returns-2 c =
 pub blocks-ok-spec : {M : Type 1} → statement M
 blocks-ok-spec =
     tie.close
-    (tie.spec
-    Inv-loop
-    μ-loop
-    block-count-requires
-    delayed-requires
-    loop-holds
-    block-ok-requires
-    returns
-    add-b
-    loop-less
-    loop-again
-    returns-2)
+    (tie.spec Inv-loop μ-loop block-count-requires delayed-requires loop-holds block-ok-requires returns add-b
+    loop-less loop-again returns-2)

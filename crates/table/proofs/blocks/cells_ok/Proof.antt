@@ -52,14 +52,5 @@ returns c =
 pub cells-ok-spec : {M : Type 1} → statement M
 cells-ok-spec =
     tie.close
-    (tie.spec
-    Inv-loop
-    μ-loop
-    loop-holds
-    mul-next
-    mul-next-2
-    shared-slice-read-next
-    add-c
-    loop-less
-    loop-again
+    (tie.spec Inv-loop μ-loop loop-holds mul-next mul-next-2 shared-slice-read-next add-c loop-less loop-again
     returns)

@@ -62,14 +62,5 @@ returns c =
 pub delayed-spec : {M : Type 1} → statement M
 delayed-spec =
     tie.close
-    (tie.spec
-    Inv-loop
-    μ-loop
-    transition-count-requires
-    loop-holds
-    timer-delay-requires
-    single-requires
-    add-t
-    loop-less
-    loop-again
-    returns)
+    (tie.spec Inv-loop μ-loop transition-count-requires loop-holds timer-delay-requires single-requires add-t
+    loop-less loop-again returns)

@@ -32,11 +32,4 @@ returns-3 c = rw (ne-eqb _ _ (c .before .if1 .left))
 pub mask-ok-spec : {M : Type 1} → statement M
 mask-ok-spec =
     tie.close
-    (tie.spec
-    mul-if2
-    shared-slice-read-if2
-    returns
-    returns-2
-    mul-result
-    shared-slice-read-result
-    returns-3)
+    (tie.spec mul-if2 shared-slice-read-if2 returns returns-2 mul-result shared-slice-read-result returns-3)

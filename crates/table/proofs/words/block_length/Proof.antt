@@ -37,12 +37,5 @@ returns c = rw (c .before .transition-count .ensures)
 pub block-length-spec : {M : Type 1} → statement M
 block-length-spec =
     tie.close
-    (tie.spec
-    transition-count-requires
-    add-result
-    mul-result
-    add-result-2
-    mul-result-2
-    shared-slice-read-result
-    cast-result
-    returns)
+    (tie.spec transition-count-requires add-result mul-result add-result-2 mul-result-2 shared-slice-read-result
+    cast-result returns)

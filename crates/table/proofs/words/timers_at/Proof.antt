@@ -32,12 +32,5 @@ returns c = c .join .ensures
 pub timers-at-spec : {M : Type 1} → statement M
 timers-at-spec =
     tie.close
-    (tie.spec
-    add-join
-    mul-join
-    shared-slice-read-join
-    add-join-2
-    mul-join-2
-    shared-slice-read-join-2
-    join-requires
+    (tie.spec add-join mul-join shared-slice-read-join add-join-2 mul-join-2 shared-slice-read-join-2 join-requires
     returns)
