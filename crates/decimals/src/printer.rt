@@ -9,7 +9,9 @@ ghost use Rattle.decimals.specs.Printing.{decimalOf, lineOf};
 // A number into the line at a place; the place after it.
 fn put(line: &mut [u8], at: usize, n: u32) -> usize
     requires { ⌜ at + 10 ≤ length (now line) ⌝ }
-    ensures { λ r. ⌜ (now (line .exit) ≡ over (now (line .entry)) at (decimalOf n)) × (r ≡ at + length (decimalOf n)) × (r ≤ at + 10) ⌝ }
+    ensures { λ r. ⌜ (now (line .exit) ≡ over (now (line .entry)) at (decimalOf n))
+        × (r ≡ at + length (decimalOf n))
+        × (r ≤ at + 10) ⌝ }
 {
     let mut digits = [0u8; 20];
     let count = io::decimal(n as u64, &mut digits);

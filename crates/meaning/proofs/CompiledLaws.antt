@@ -71,7 +71,8 @@ module _ (s work table : List ℕ) where
   compiled-words h =
       let o = walk s (length work) in
       let words = tableWords s (o .listed) in
-      rw (eq-eqb (compileRefusal s o (length table)) 0 h, eq-eqb (sheetRefusal s) 0 (compile-accepts s o (length table) h .passes)) (take-append-seam words (drop (length words) table))
+      rw (eq-eqb (compileRefusal s o (length table)) 0 h, eq-eqb (sheetRefusal s) 0 (compile-accepts s o (length table) h .passes))
+      (take-append-seam words (drop (length words) table))
 
 -- by the one fact that a tick leaves a consistent set
 pub compiled-faithful-from : ((s : List ℕ) → Sound s → (y d i : ℕ) → (y ≡ 0) ⊎ T (consistent s y) → T (consistent s (tick s y d i .sets .modes)))

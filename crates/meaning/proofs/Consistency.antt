@@ -290,7 +290,7 @@ module _ (s : List ℕ) (sd : Sound s) where
       abbrev x′ : ℕ
       x′ = afterRound s z es .modes
 
-      -- kept, or entered by one of es
+      -- stayed, or entered by one of es
       Old : ℕ → Type 0
       Old m = T (has (z .modes) m) × ((t : ℕ) → T (has es t) → Within s (exitTop s t) m → ⊥)
 
@@ -409,7 +409,7 @@ module _ (s : List ℕ) (sd : Sound s) where
                 new-in (enterTop s (u .0)) (u .0, u .2, W (u .0) (u .2) .top),
               )
 
-      -- a mode that is kept and one that is entered do not share a serial parent
+      -- a mode that stays and one that is entered do not share a serial parent
       mixed : (y v : ℕ) → y < nOf s → v < nOf s → 0 < y → parent s y ≡ parent s v → Old y → In v → ⊥
       unfolding Old In
       mixed y v ly lv py q o i = go (eqb v (enterTop s (i .0))) refl

@@ -42,15 +42,21 @@ module _ (s w : List ℕ) where
   unfolding cellFaithful
   cell-true b c h =
       let t = allOf-e _ h in
-      let five = every-e 5 (λ j. eqb (cellWord w b c (suc j)) (getD (fiveWords (cellTick s (maskIn w b) c .sets)) j 0)) (t .1 .1 .0) in
+      let five = every-e 5 (λ j. eqb (cellWord w b c (suc j)) (getD (fiveWords z) j 0)) (t .1 .1 .0) in
       record {
         unrefused = eqb→eq (cellTick s (maskIn w b) c .refusal) 0 (t .0);
-        next = eqb→eq (maskIn w (cellWord w b c 0)) (cellTick s (maskIn w b) c .sets .modes) (t .1 .0);
-        words = same (cellWord w b c) (cellTick s (maskIn w b) c .sets) (λ j l. eqb→eq (cellWord w b c (suc j)) (getD (fiveWords (cellTick s (maskIn w b) c .sets)) j 0) (five j l));
+        next = eqb→eq (maskIn w (cellWord w b c 0)) (z .modes) (t .1 .0);
+        words = same (cellWord w b c) (λ j l. eqb→eq (cellWord w b c (suc j)) (getD (fiveWords z) j 0) (five j l));
       }
     where
-      same : (f : ℕ → ℕ) (z : TickSets) → ((j : ℕ) → j < 5 → f (suc j) ≡ getD (fiveWords z) j 0) → rowFrom 1 5 f ≡ fiveWords z
-      same f z e = ext-getD 0 (rowFrom 1 5 f) (fiveWords z) (rowFrom-length f 1 5 ∙ (unfold fiveWords in refl)) (λ j l. rowFrom-at f 0 1 5 j (omega (arith, rowFrom-length f 1 5)) ∙ ap f (omega arith) ∙ e j (omega (arith, rowFrom-length f 1 5)))
+      z : TickSets
+      z = cellTick s (maskIn w b) c .sets
+
+      same : (f : ℕ → ℕ) → ((j : ℕ) → j < 5 → f (suc j) ≡ getD (fiveWords z) j 0) → rowFrom 1 5 f ≡ fiveWords z
+      same f e =
+          let five = rowFrom-length f 1 5 in
+          ext-getD 0 (rowFrom 1 5 f) (fiveWords z) (five ∙ (unfold fiveWords in refl))
+          (λ j l. rowFrom-at f 0 1 5 j (omega arith) ∙ ap f (omega arith) ∙ e j (omega arith))
 
   pub cell-faithful : (b c : ℕ) → CellTrue s w b c → T (cellFaithful s w b c)
   unfolding cellFaithful

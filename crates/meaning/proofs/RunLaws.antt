@@ -91,7 +91,13 @@ module _ (k : ℕ) (step : State → ℕ → Step) where
   pub ticks-split : (a b : List ℕ) (q : State) → ticks k step a q .refusal ≡ 0
       → ticks k step (a ++ b) q ≡ ticksThen (ticks k step a q) (ticks k step b (ticks k step a q .state))
   unfolding ticksThen tickThen
-  ticks-split [] b q h = unfold ticks stops in (ap₂ (λ (n r : ℕ). record { done = n; state = ticks k step b q .state; refusal = ticks k step b q .refusal; words = ticks k step b q .words; rounds = r }) (sym (zero-add (ticks k step b q .done))) (sym (zero-add (ticks k step b q .rounds))))
+  ticks-split [] b q h =
+      unfold ticks stops in
+      (ap₂ (λ (n r : ℕ). record { done = n; state = o .state; refusal = o .refusal; words = o .words; rounds = r })
+      (sym (zero-add (o .done))) (sym (zero-add (o .rounds))))
+    where
+      o : Ticks
+      o = ticks k step b q
   ticks-split (i ∷ a) b q h =
       let f = first-done i a q h in
       let ih = ticks-split a b (step q i .state) (f .1) in
@@ -102,8 +108,9 @@ module _ (k : ℕ) (step : State → ℕ → Step) where
       joined o x rest =
           let y = rest (x .state) in
           let n : suc (x .done + y .done) ≡ suc (x .done) + y .done = omega arith in
-          ap₂ (λ (d : ℕ) (w : List ℕ). record { done = d; state = y .state; refusal = y .refusal; words = w; rounds = o .rounds + (x .rounds + y .rounds) }) n (sym (append-assoc (o .words) (x .words) (y .words)))
-          ∙ ap (λ (r : ℕ). record { done = suc (x .done) + y .done; state = y .state; refusal = y .refusal; words = (o .words ++ x .words) ++ y .words; rounds = r }) (sym (add-assoc (o .rounds) (x .rounds) (y .rounds)))
+          let all : ℕ → List ℕ → ℕ → Ticks = λ d w r. record { done = d; state = y .state; refusal = y .refusal; words = w; rounds = r } in
+          ap₂ (λ (d : ℕ) (w : List ℕ). all d w (o .rounds + (x .rounds + y .rounds))) n (sym (append-assoc (o .words) (x .words) (y .words)))
+          ∙ ap (all (suc (x .done) + y .done) ((o .words ++ x .words) ++ y .words)) (sym (add-assoc (o .rounds) (x .rounds) (y .rounds)))
 
   -- where the front part is refused, it is all
   pub ticks-cut : (a b : List ℕ) (q : State) → (ticks k step a q .refusal ≡ 0 → ⊥) → ticks k step (a ++ b) q ≡ ticks k step a q
@@ -156,7 +163,9 @@ module _ (k : ℕ) (step : State → ℕ → Step) where
   module _ (m : ℕ) (few : (p : State) (i : ℕ) → step p i .rounds ≤ m) where
     pub rounds-few : (is : List ℕ) (q : State) → ticks k step is q .rounds ≤ m * ticks k step is q .done
     unfolding stops tickThen
-    rounds-few = ticks-all (λ _ _ x. x .rounds ≤ m * x .done) (λ _. zero-le) (λ _ _ _ _. zero-le) (λ i is q e ih. omega (arith, few q i, mul-suc m (ticks k step is (step q i .state) .done)))
+    rounds-few =
+        ticks-all (λ _ _ x. x .rounds ≤ m * x .done) (λ _. zero-le) (λ _ _ _ _. zero-le)
+        (λ i is q e ih. omega (arith, few q i, mul-suc m (ticks k step is (step q i .state) .done)))
 
   -- five words for each done tick
   module _ (five : (p : State) (i : ℕ) → length (step p i .words) ≡ 5) where

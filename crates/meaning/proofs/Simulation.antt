@@ -214,6 +214,7 @@ module _ (s : List ℕ) (sd : Sound s) (w : List ℕ) (ok : T (tableOk w)) (f : 
           })
       go false e ih =
           subst (λ (R : Ticks). Agree q (i ∷ is) (i ∷ ds) R (sheetTicks s (i ∷ ds) p)) (sym (ticks-go (kIn w) (tableStep w) i is q (table-good q p st i e r)))
-          (subst (λ (S : Ticks). Agree q (i ∷ is) (i ∷ ds) (tickThen (tableStep w q i) (tableTicks w is q′)) S) (sym (ticks-go (kOf s) (sheetStep s) i ds p (sheet-good q p st i e)))
+          (subst (λ (S : Ticks). Agree q (i ∷ is) (i ∷ ds) (tickThen (tableStep w q i) (tableTicks w is q′)) S)
+          (sym (ticks-go (kOf s) (sheetStep s) i ds p (sheet-good q p st i e)))
           (agree-then q q′ i is ds (tableStep w q i) (sheetStep s p i) (tableTicks w is q′) (sheetTicks s ds p′) (step-words q p st i e)
           (ih (stands-next q p st i e) (right-step q p st i e r))))

@@ -43,7 +43,10 @@ pub fn meeting_of(sheet: &[u32], a: usize, b: usize) -> usize
 
 // A transition's own meeting mode; its ends are modes.
 pub fn meeting(sheet: &[u32], t: usize) -> usize
-    requires { ⌜ Tree (now sheet) × Record (now sheet) t × (source (now sheet) t < nOf (now sheet)) × (target (now sheet) t < nOf (now sheet)) ⌝ }
+    requires { ⌜ Tree (now sheet)
+        × Record (now sheet) t
+        × (source (now sheet) t < nOf (now sheet))
+        × (target (now sheet) t < nOf (now sheet)) ⌝ }
     ensures { λ r. ⌜ (r ≡ meeting (now (sheet .entry)) t) × (r < nOf (now (sheet .entry))) ⌝ }
 {
     meeting_of(sheet, source(sheet, t), target(sheet, t))

@@ -31,7 +31,10 @@ fn has_child(sheet: &[u32], m: usize) -> bool
 // The parent of mode m: of the root 0, of another mode a lower one that is not atomic.
 fn parent_ok(sheet: &[u32], m: usize) -> bool
     requires { ⌜ Row (now sheet) m ⌝ }
-    ensures { λ r. ⌜ r ≡ cond (eqb m 0) (eqb (parent (now (sheet .entry)) m) 0) (ltb (parent (now (sheet .entry)) m) m && not (eqb (kind (now (sheet .entry)) (parent (now (sheet .entry)) m)) 0)) ⌝ }
+    ensures { λ r. ⌜ r ≡ cond (eqb m 0)
+        (eqb (parent (now (sheet .entry)) m) 0)
+        (ltb (parent (now (sheet .entry)) m) m
+        && not (eqb (kind (now (sheet .entry)) (parent (now (sheet .entry)) m)) 0)) ⌝ }
 {
     let p = parent(sheet, m);
     if m == 0 {
@@ -43,7 +46,10 @@ fn parent_ok(sheet: &[u32], m: usize) -> bool
 // The first mode of mode m: of a serial mode one of its children, else 0.
 fn first_ok(sheet: &[u32], m: usize) -> bool
     requires { ⌜ Row (now sheet) m ⌝ }
-    ensures { λ r. ⌜ r ≡ cond (eqb (kind (now (sheet .entry)) m) 1) (ltb (first (now (sheet .entry)) m) (nOf (now (sheet .entry))) && isChild (now (sheet .entry)) m (first (now (sheet .entry)) m)) (eqb (first (now (sheet .entry)) m) 0) ⌝ }
+    ensures { λ r. ⌜ r ≡ cond (eqb (kind (now (sheet .entry)) m) 1)
+        (ltb (first (now (sheet .entry)) m) (nOf (now (sheet .entry)))
+        && isChild (now (sheet .entry)) m (first (now (sheet .entry)) m))
+        (eqb (first (now (sheet .entry)) m) 0) ⌝ }
 {
     let c = first(sheet, m);
     if kind(sheet, m) == 1 {

@@ -26,7 +26,9 @@ fn mask_ok(n: usize, v: u32) -> bool
 // An "or" of value v: neither first nor last nor before another.
 fn or_ok(sheet: &[u32], t: usize, j: usize, v: u32) -> bool
     requires { ⌜ Term (now sheet) t j ⌝ }
-    ensures { λ r. ⌜ r ≡ (eqb v 0 && ltb 0 j && ltb (suc j) (termCount (now (sheet .entry)) t) && not (eqb (termKind (now (sheet .entry)) t (suc j)) 7)) ⌝ }
+    ensures { λ r. ⌜ r ≡ (eqb v 0 && ltb 0 j
+        && ltb (suc j) (termCount (now (sheet .entry)) t)
+        && not (eqb (termKind (now (sheet .entry)) t (suc j)) 7)) ⌝ }
 {
     v == 0 && 0 < j && j + 1 < term_count(sheet, t) && term_kind(sheet, t, j + 1) != 7
 }

@@ -52,7 +52,9 @@ fn cells_ok(cells: &[u32], count: usize, blocks: u32) -> bool
 // The mask of block b, which stands at an offset, is not 0; block 0 has mask 0 and no timers.
 fn mask_ok(table: &[u32], b: usize, offset: usize, timers: u64) -> bool
     requires { ⌜ offset < length (now table) ⌝ }
-    ensures { λ r. ⌜ r ≡ cond (eqb b 0) (eqb (wordIn (now (table .entry)) offset) 0 && eqb timers 0) (not (eqb (wordIn (now (table .entry)) offset) 0)) ⌝ }
+    ensures { λ r. ⌜ r ≡ cond (eqb b 0)
+        (eqb (wordIn (now (table .entry)) offset) 0 && eqb timers 0)
+        (not (eqb (wordIn (now (table .entry)) offset) 0)) ⌝ }
 {
     if b == 0 {
         return table[offset] == 0 && timers == 0;
@@ -62,7 +64,10 @@ fn mask_ok(table: &[u32], b: usize, offset: usize, timers: u64) -> bool
 
 // Block b is as it must be; all blocks stand in their places.
 fn block_ok(table: &[u32], with_delay: u64, b: usize) -> bool
-    requires { ⌜ T (tableHeadOk (now table)) × T (tablePairsOk (now table)) × («with_delay» ≡ delayedIn (now table)) × (b < bIn (now table)) ⌝ }
+    requires { ⌜ T (tableHeadOk (now table))
+        × T (tablePairsOk (now table))
+        × («with_delay» ≡ delayedIn (now table))
+        × (b < bIn (now table)) ⌝ }
     ensures { λ r. ⌜ r ≡ blockOk (now (table .entry)) b ⌝ }
 {
     let at = offset(table, b);

@@ -17,9 +17,9 @@ length-fits r sheet work table e = rw e (compile-length sheet work table)
 table-fits : (c : tie.Else1) → let call = c .before .before .before .before .compile in call .result .«table_length» ≤ length (call .last .1 .0)
 table-fits c =
     let call = c .before .before .before .before .compile in
-    let kept = c .before .before .before .table2 .given in
+    let given = c .before .before .before .table2 .given in
     let fits = length-fits _ _ _ _ (call .ensures) in
-    omega (arith, kept, fits)
+    omega (arith, given, fits)
 
 slice-aggregate-compile : tie.Need-slice-aggregate-compile
 slice-aggregate-compile c = search needs

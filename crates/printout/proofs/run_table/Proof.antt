@@ -26,10 +26,10 @@ slice-aggregate-print-ticks c = search needs
 
 print-ticks-requires : tie.Need-print-ticks-requires
 print-ticks-requires c κs =
-    let kept = c .before .out2 .given in
+    let given = c .before .out2 .given in
     let start = c .before .before .before .before .before .before in
     let done = done-fits _ _ (start .args .inputs .now) _ _ (c .before .before .run .ensures) in
-    (omega (arith, done, start .pre, kept), omega (arith, kept))
+    (omega (arith, done, start .pre, given), omega (arith, given))
 
 number-requires : tie.Need-number-requires
 number-requires c κs = search needs
