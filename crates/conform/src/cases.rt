@@ -18,9 +18,9 @@ pub struct Read {
     pub words: usize,
 }
 
-// The words of a state, and what is left after them.
+// A state, and what is left after it.
 struct StateRead {
-    words: [u32; STATE_WORDS],
+    state: State,
     input: Input,
 }
 
@@ -68,7 +68,10 @@ fn read_pairs(buf: &mut [u8; 65536], from: Input, at: u32, pairs: usize) -> Stat
         input = r.input;
         i += 1;
     }
-    StateRead { words, input }
+    StateRead {
+        state: from_words(&words),
+        input,
+    }
 }
 
 // Reads a state, the input sets and the number of output words of a run.
@@ -83,8 +86,7 @@ pub fn read_run(buf: &mut [u8; 65536], from: Input, inputs: &mut [u32]) -> Asked
     let after = text::numbers(buf, m.input, &mut inputs[..count]);
     let o = text::number(buf, after);
     let outputs = text::at_most(o.value, 400);
-    let words = read.words;
-    let state = from_words(&words);
+    let state = read.state;
     let input = o.input;
     Asked {
         state,
