@@ -7,7 +7,7 @@ use borrow.Author.Needs.{needs}
 use lib.ListN.{length}
 use lib.Seq.{length-take-le}
 use Rattle.meaning.specs.Compile.{Compiled, compile}
-use Rattle.meaning.proofs.Bounds.{compile-length}
+use Rattle.meaning.proofs.CompiledLaws.{compile-length}
 use Rattle.printout.proofs.compile_and_run.Statement.{statement}
 use Rattle.printout.proofs.compile_and_run.Tie as tie
 

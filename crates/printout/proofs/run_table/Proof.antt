@@ -15,6 +15,9 @@ use Rattle.printout.proofs.run_table.Tie as tie
 done-fits : (r : Run) (table inputs out : List ℕ) (q : State) → r ≡ tableRun table q inputs out → r .done ≤ length inputs
 done-fits r table inputs out q e = rw e (table-run-done table q inputs out)
 
+fresh-requires : tie.Need-fresh-requires
+fresh-requires c κs = search needs
+
 slice-aggregate-run : tie.Need-slice-aggregate-run
 slice-aggregate-run c = search needs
 
@@ -27,7 +30,7 @@ slice-aggregate-print-ticks c = search needs
 print-ticks-requires : tie.Need-print-ticks-requires
 print-ticks-requires c κs =
     let given = c .before .out2 .given in
-    let start = c .before .before .before .before .before .before in
+    let start = c .before .before .before .before .before .before .before in
     let done = done-fits _ _ (start .args .inputs .now) _ _ (c .before .before .run .ensures) in
     (omega (arith, done, start .pre, given), omega (arith, given))
 
@@ -49,5 +52,5 @@ returns-2 c = search needs
 pub run-table-spec : {M : Type 1} → statement M
 run-table-spec =
     tie.close
-    (tie.spec slice-aggregate-run run-requires slice-aggregate-print-ticks print-ticks-requires number-requires
+    (tie.spec fresh-requires slice-aggregate-run run-requires slice-aggregate-print-ticks print-ticks-requires number-requires
     number-requires-2 print-refusal-requires returns returns-2)
