@@ -1,9 +1,9 @@
 -- Laws of readings: every running reading stays 1 to its delay, and the others 0. Assumes nothing.
 use mathlib.Core.Path.{_≡_, refl, sym, ap, ap₂, _∙_, subst}
 use mathlib.Core.Logic.{_⊎_, inl, inr}
-use mathlib.Core.Bool.{Bool, true, false, not, _&&_, cond}
-use mathlib.Core.List.{List, [], _∷_}
-use Prim.Native.Nat.{ℕ, _-_, _^_, _≤_, _<_}
+use mathlib.Core.Bool.{Bool, true, false, _&&_, cond}
+use mathlib.Core.List.{List}
+use Prim.Native.Nat.{ℕ, _-_, _≤_, _<_}
 use native.Mathlib.Nat.{lt-of-lt-of-le}
 use native.Mathlib.Omega.{arith}
 use lib.Dec.{T, eqb, leb, ltb, eqb→eq, leb→le, ltb→lt}
@@ -13,7 +13,7 @@ use Rattle.sets.specs.Sets.{has}
 use Rattle.sets.proofs.Tests.{is-true, is-false, and-l, and-r, and-i, cond-ext}
 use Rattle.sets.proofs.Membership.{has-none}
 use Rattle.sets.proofs.Those.{has-those}
-use Rattle.meaning.specs.Sheet.{nOf, kOf, tOf, recordLength, source, termCount, termKind, termValue}
+use Rattle.meaning.specs.Sheet.{tOf, recordLength, source, termCount, termKind, termValue}
 use Rattle.meaning.specs.Check.{pairOk, termOk}
 use Rattle.meaning.specs.Reaction.{TickSets, isDelay, delay, isTimer, running}
 use Rattle.meaning.specs.Tick.{tick}
@@ -61,13 +61,7 @@ module _ (s : List ℕ) (sd : Sound s) where
 
   first-term : (t : ℕ) → T (termOk s t 0) → termKind s t 0 ≡ 0 → termValue s t 0 ≤ 65535
   unfolding termOk
-  first-term t h z =
-      leb→le (termValue s t 0) 65535
-      (and-r (eqb (termCount s t) 1) (leb (termValue s t 0) 65535)
-      (subst (λ (k : ℕ). T (getD
-      ((eqb (termCount s t) 1 && leb (termValue s t 0) 65535) ∷ ltb (termValue s t 0) (kOf s) ∷ ltb (termValue s t 0) (kOf s)
-      ∷ (ltb 0 (termValue s t 0) && ltb (termValue s t 0) (2 ^ nOf s)) ∷ ltb (termValue s t 0) (nOf s) ∷ ltb (termValue s t 0) (nOf s) ∷ ltb (termValue s t 0) (tOf s)
-      ∷ (eqb (termValue s t 0) 0 && ltb 0 0 && ltb 1 (termCount s t) && not (eqb (termKind s t 1) 7)) ∷ []) k false)) z h))
+  first-term t h z = leb→le (termValue s t 0) 65535 (and-r (eqb (termCount s t) 1) (leb (termValue s t 0) 65535) (rw z at h))
 
   pub delay-small : (t : ℕ) → t < tOf s → T (isTimer s t) → delay s t < 65536
   unfolding isTimer isDelay delay

@@ -104,9 +104,9 @@ module _ (k : ℕ) (step : State → ℕ → Step) where
       let on = tickThen (step q i) (ticks is (step q i .state)) in
       cond (eqb e 0) on (stops e q)
 
-  -- the run on a state, a list of input sets and the output words: what is refused of the sheet or table itself, "then 14, then 12,
-  -- then tick by tick"
+  -- the run on a state, a list of input sets and the output words: what is refused of the sheet or table itself, "then 14" (a state
+  -- that is not admitted), "then 12, then tick by tick"
   unfoldable pub run : ℕ → Bool → State → List ℕ → List ℕ → Run
-  run refusal stateOk q inputs out =
-      let e = firstRefusal (refusal ∷ refusedIf (not stateOk) 14 ∷ refusedIf (outputShort inputs out) 12 ∷ []) in
+  run refusal admitted q inputs out =
+      let e = firstRefusal (refusal ∷ refusedIf (not admitted) 14 ∷ refusedIf (outputShort inputs out) 12 ∷ []) in
       ran out (cond (eqb e 0) (ticks inputs q) (stops e q))
