@@ -1,6 +1,6 @@
 -- Laws of rounds and ticks: at most T rounds, a tick ends with nothing triggered, what is active at its end. Assumes nothing.
 use mathlib.Core.Path.{_≡_, refl, sym, ap, _∙_, subst}
-use mathlib.Core.Logic.{_⊎_, inl, inr}
+use mathlib.Core.Logic.{_⊎_, inl, inr, ⊎-elim}
 use mathlib.Core.Bool.{Bool, true, false, not, _&&_, _||_, cond}
 use mathlib.Core.List.{List}
 use Prim.Native.Nat.{ℕ, zero, suc, _+_, _^_, _≤_, _<_, zero-le}
@@ -31,64 +31,46 @@ module _ (s : List ℕ) (d i : ℕ) where
     pub clear : ambiguous s (chosen s d i z) ≡ false
     pub fresh : restless s z (chosen s d i z) ≡ false
 
+  -- what holds of the rounds from any sets: with no fuel, where none is eligible, where one is refused, after one that is taken
+  module _ (P : ℕ → TickSets → ℕ → Tick → Type 0)
+      (spent : (z : TickSets) (r : ℕ) → P 0 z r (record { refusal = 0; sets = z; rounds = r }))
+      (none : (f : ℕ) (z : TickSets) (r : ℕ) → chosen s d i z ≡ 0 → P (suc f) z r (record { refusal = 0; sets = z; rounds = r }))
+      (bad : (f : ℕ) (z : TickSets) (r e : ℕ) → (e ≡ 0 → ⊥) → P (suc f) z r (record { refusal = e; sets = z; rounds = r }))
+      (more : (f : ℕ) (z : TickSets) (r : ℕ) (o : Tick) → Taken z → P f (afterRound s z (chosen s d i z)) (suc r) o → P (suc f) z r o) where
+    pub rounds-all : (f : ℕ) (z : TickSets) (r : ℕ) → P f z r (roundsFrom s f d i z r)
+    unfolding roundsFrom
+    rounds-all zero z r = spent z r
+    rounds-all (suc f) z r = go (eqb es 0) (ambiguous s es) (restless s z es) refl refl refl (rounds-all f (afterRound s z es) (suc r))
+      where
+        es : ℕ
+        es = chosen s d i z
+
+        on : Tick
+        on = roundsFrom s f d i (afterRound s z es) (suc r)
+
+        go : (a b c : Bool) → eqb es 0 ≡ a → ambiguous s es ≡ b → restless s z es ≡ c → P f (afterRound s z es) (suc r) on
+            → P (suc f) z r
+            (cond a (record { refusal = 0; sets = z; rounds = r })
+            (cond b (record { refusal = 8; sets = z; rounds = r })
+            (cond c (record { refusal = 9; sets = z; rounds = r }) on)))
+        go true b c ea eb ec ih = none f z r (eqb-true es 0 ea)
+        go false true c ea eb ec ih = bad f z r 8 (λ h. omega arith)
+        go false false true ea eb ec ih = bad f z r 9 (λ h. omega arith)
+        go false false false ea eb ec ih = more f z r on (record { filled = ea; clear = eb; fresh = ec }) ih
+
   pub rounds-ind : (P : TickSets → ℕ → Type 0)
       → ((z : TickSets) (r : ℕ) → P z r → Taken z → P (afterRound s z (chosen s d i z)) (suc r))
       → (f : ℕ) (z : TickSets) (r : ℕ) → P z r → P (roundsFrom s f d i z r .sets) (roundsFrom s f d i z r .rounds)
-  unfolding roundsFrom
-  rounds-ind P step zero z r p = p
-  rounds-ind P step (suc f) z r p =
-      go (eqb es 0) (ambiguous s es) (restless s z es) refl refl refl (λ q. rounds-ind P step f (afterRound s z es) (suc r) q)
-    where
-      es : ℕ
-      es = chosen s d i z
-
-      on : Tick
-      on = roundsFrom s f d i (afterRound s z es) (suc r)
-
-      res : Bool → Bool → Bool → Tick
-      res a b c =
-          cond a (record { refusal = 0; sets = z; rounds = r })
-          (cond b (record { refusal = 8; sets = z; rounds = r })
-          (cond c (record { refusal = 9; sets = z; rounds = r }) on))
-
-      go : (a b c : Bool) → eqb es 0 ≡ a → ambiguous s es ≡ b → restless s z es ≡ c
-          → (P (afterRound s z es) (suc r) → P (on .sets) (on .rounds)) → P (res a b c .sets) (res a b c .rounds)
-      go true b c ea eb ec ih = p
-      go false true c ea eb ec ih = p
-      go false false true ea eb ec ih = p
-      go false false false ea eb ec ih = ih (step z r p (record { filled = ea; clear = eb; fresh = ec }))
+  rounds-ind P step =
+      rounds-all (λ _ z r o. P z r → P (o .sets) (o .rounds)) (λ _ _ p. p) (λ _ _ _ _ p. p) (λ _ _ _ _ _ p. p) (λ f z r o t ih p. ih (step z r p t))
 
   -- rounds that are not refused end where none is eligible, or with the fuel
   pub rounds-end : (f : ℕ) (z : TickSets) (r : ℕ) → roundsFrom s f d i z r .refusal ≡ 0
       → (chosen s d i (roundsFrom s f d i z r .sets) ≡ 0) ⊎ (roundsFrom s f d i z r .rounds ≡ r + f)
-  unfolding roundsFrom
-  rounds-end zero z r e = inr (omega arith)
-  rounds-end (suc f) z r e =
-      go (eqb es 0) (ambiguous s es) (restless s z es) refl e (rounds-end f (afterRound s z es) (suc r))
-    where
-      es : ℕ
-      es = chosen s d i z
-
-      on : Tick
-      on = roundsFrom s f d i (afterRound s z es) (suc r)
-
-      res : Bool → Bool → Bool → Tick
-      res a b c =
-          cond a (record { refusal = 0; sets = z; rounds = r })
-          (cond b (record { refusal = 8; sets = z; rounds = r })
-          (cond c (record { refusal = 9; sets = z; rounds = r }) on))
-
-      later : (chosen s d i (on .sets) ≡ 0) ⊎ (on .rounds ≡ suc r + f) → (chosen s d i (on .sets) ≡ 0) ⊎ (on .rounds ≡ r + suc f)
-      later (inl x) = inl x
-      later (inr x) = inr (omega arith)
-
-      go : (a b c : Bool) → eqb es 0 ≡ a → res a b c .refusal ≡ 0
-          → (on .refusal ≡ 0 → (chosen s d i (on .sets) ≡ 0) ⊎ (on .rounds ≡ suc r + f))
-          → (chosen s d i (res a b c .sets) ≡ 0) ⊎ (res a b c .rounds ≡ r + suc f)
-      go true b c ea k ih = inl (eqb-true es 0 ea)
-      go false true c ea k ih = absurd (omega arith)
-      go false false true ea k ih = absurd (omega arith)
-      go false false false ea k ih = later (ih k)
+  rounds-end =
+      rounds-all (λ f z r o. o .refusal ≡ 0 → (chosen s d i (o .sets) ≡ 0) ⊎ (o .rounds ≡ r + f))
+      (λ _ r _. inr (omega arith)) (λ _ _ _ h _. inl h) (λ _ _ _ e n h. absurd (n h))
+      (λ f z r o t ih h. ⊎-elim (λ x. inl x) (λ x. inr (omega arith)) (ih h))
 
 -- ---- a round takes a transition not taken before
 
