@@ -101,6 +101,7 @@ module _ (s : List ℕ) (h : sheetRefusal s ≡ 0) (z : Sets) (d : Derived s z) 
       ≡ ltb 0 (trigger s (z .due) i (setsOf z) t)
   unfolding trigger
   triggered-at t l =
+      let small : i < 2 ^ 32 = omega (arith, input-lt s i h b) in
       let live = z .live in
       let due = z .due in
       let sets = setsOf z in
@@ -113,8 +114,8 @@ module _ (s : List ℕ) (h : sheetRefusal s ≡ 0) (z : Sets) (d : Derived s z) 
       ∙ ap₂ _||_
       (has-meet live (union due (hitsOf s i)) t ∙ ap₂ _&&_ live-is (has-union due (hitsOf s i) t ∙ ap (λ (x : Bool). has due t || x) (has-hitsOf s i t l)))
       (has-those 64 (meet live (mixed s)) judge t (lt-of-lt-of-le l (t-le s (sound s h)))
-      ∙ ap₂ _&&_ (has-meet live (mixed s) t ∙ ap₂ _&&_ live-is (has-mixed s t l)) (ap (ltb 0) (alternative-by s i sets (omega (arith, input-lt s i h b)) t h l)))
-      ∙ trigger-cases on wait now (has due t) (eventsOnly s t) a (alternative s i noSets t) (due-waits t) (events-alone s i noSets sets t)
+      ∙ ap₂ _&&_ (has-meet live (mixed s) t ∙ ap₂ _&&_ live-is (has-mixed s t l)) (ap (ltb 0) (alternative-by s i sets small t h l)))
+      ∙ trigger-cases on wait now (has due t) (eventsOnly s t) a (alternative s i noSets t) (due-waits t) (events-alone s i noSets sets t small h l)
       ∙ ap (λ (x : Bool). ltb 0 (cond (not on) 0 (cond wait (cond (now || x) 9 0) a))) (due-is t l)
 
   live-lt : z .live < 2 ^ tOf s
