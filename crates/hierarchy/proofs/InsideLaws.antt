@@ -61,11 +61,8 @@ module _ (s : List ℕ) (sd : Sound s) where
   start-words : (p : ℕ) → p < nOf s → single p ≡ setOf (nOf s) (addedFrom s (nOf s) p)
   start-words p l =
       setOf-ext (nOf s) (addedFrom s (nOf s) p) (single-lt (nOf s) p l) (λ y k. has-single p y ∙ bool-ext (eqb y p) (addedFrom s (nOf s) p y)
-      (λ h. added-itself s (nOf s) (eqb→eq y p h)) (λ h. only y (added-e s (nOf s) p y h)))
-    where
-      only : (y : ℕ) → Held s (nOf s) p y → T (eqb y p)
-      only y (inl e) = of-true (eq-eqb y p e)
-      only y (inr r) = absurd (omega (arith, r .1, r .3))
+      (λ h. added-itself s (nOf s) (eqb→eq y p h))
+      (λ h. ⊎-elim (λ e. of-true (eq-eqb y p e)) (λ r. absurd (omega (arith, r .1, r .3))) (added-e s (nOf s) p y h)))
 
   -- where all children of p are added, word p is whole
   whole-test : (m p y : ℕ) → m ≤ p + 1 → y < nOf s → addedFrom s m p y ≡ contains s p y

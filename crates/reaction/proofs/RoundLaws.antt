@@ -191,9 +191,6 @@ module _ (s : List ℕ) where
     pub due : z .due ≡ setOf (tOf s) (isDue s d (setsOf z))
     pub timing : (t : ℕ) → T (has (z .due) t) → T (isTimer s t)
 
-  along-start : (z : Sets) → Derived s z → Along (z .due) z
-  along-start z h = record { live = h .live; due = h .due; timing = h .timing }
-
   -- what is due of the derived set is what is due of d
   due-same : (d : ℕ) (z : Sets) → Along d z → (t : ℕ) → t < tOf s → isDue s d (setsOf z) t ≡ isDue s (z .due) (setsOf z) t
   unfolding isDue
@@ -275,7 +272,7 @@ module _ (s : List ℕ) (start : Sets) (i : ℕ) where
     pub chosen : es ≡ eligible s (triggered s (z .due) i (setsOf z))
 
   pub left-start : Derived s start → Left start 0
-  left-start h = record { within = omega arith; along = along-start s start h; same = simp sub-zero }
+  left-start h = record { within = omega arith; along = record { live = h .live; due = h .due; timing = h .timing }; same = simp sub-zero }
 
   -- the tick ends with refusal `why`
   given : (z : Sets) (r : ℕ) (why : Refusal) → Left z r → record { refusal = numberOf why; sets = setsOf z; rounds = r } ≡ all
