@@ -100,7 +100,8 @@ module _ (s : List ℕ) (sd : Sound s) (m : ℕ) (mn : m < nOf s) where
 
       lone : (y z : ℕ) → y < nOf s → z < nOf s → 0 < y → 0 < z → parent s y ≡ parent s z → T (has (pathOf s c m) y) → T (has (pathOf s c m) z) → y ≡ z
       lone y z ly lz py pz q h k =
-          ⊎-elim (siblings s (tree s sd) y z ly py pz q) (λ v. sym (siblings s (tree s sd) z y lz pz py (sym q) v)) (within-total (path-e c y h .2) (path-e c z k .2))
+          ⊎-elim (siblings s (tree s sd) y z ly py pz q) (λ v. sym (siblings s (tree s sd) z y lz pz py (sym q) v))
+          (within-total (path-e c y h .2) (path-e c z k .2))
 
 -- ---- the ends of a transition
 

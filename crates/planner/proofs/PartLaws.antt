@@ -115,8 +115,8 @@ module _ (l : List ℕ) (at : ℕ) (f : ℕ → ℕ) where
   part-turn t k e a = rw (e, a) (next t k)
 
   -- where it ends
-  pub part-width : {t w : ℕ} → t ≡ w → over l at (rowFrom 0 t f) ≡ over l at (rowFrom 0 w f)
-  part-width e = rw e
+  pub part-done : {m : List ℕ} (t : ℕ) {w : ℕ} → m ≡ over l at (rowFrom 0 t f) → t ≡ w → m ≡ over l at (rowFrom 0 w f)
+  part-done t e k = rw k at e
 
 -- a word stored beside a part, and two parts laid in one loop: one turn
 set-beside : (l : List ℕ) (at w : ℕ) (f : ℕ → ℕ) → at + w ≤ length l → (i v : ℕ) → i < length l → (at ≤ i → i < at + w → ⊥)
@@ -146,9 +146,9 @@ parts-turn l at bt f g t {m} {x} {y} a b e p q =
     ∙ ap (λ (k : List ℕ). over k bt (rowFrom 0 t g)) (part-turn l at f t (omega arith) refl p) in
     part-turn (over l at (rowFrom 0 (t + 1) f)) bt g t (omega (arith, part-length l at (t + 1) f (omega arith))) first q
 
-pub parts-width : (l : List ℕ) (at bt : ℕ) (f g : ℕ → ℕ) {t w : ℕ} → t ≡ w
-    → over (over l at (rowFrom 0 t f)) bt (rowFrom 0 t g) ≡ over (over l at (rowFrom 0 w f)) bt (rowFrom 0 w g)
-parts-width l at bt f g e = rw e
+pub parts-done : (l : List ℕ) (at bt : ℕ) (f g : ℕ → ℕ) {m : List ℕ} (t : ℕ) {w : ℕ} → m ≡ over (over l at (rowFrom 0 t f)) bt (rowFrom 0 t g) → t ≡ w
+    → m ≡ over (over l at (rowFrom 0 w f)) bt (rowFrom 0 w g)
+parts-done l at bt f g t e k = rw k at e
 
 -- the same for a row at the front of a list
 pub front-turn : (l : List ℕ) (f : ℕ → ℕ) (t : ℕ) {m : List ℕ} {r : ℕ} → t < length l → m ≡ over l 0 (rowFrom 0 t f) → r ≡ f t

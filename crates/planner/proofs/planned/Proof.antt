@@ -49,7 +49,8 @@ laid-from c = lay _ (record { within = omega arith; inside = omega arith }) (non
 laid-ends : (c : tie.After-put-ends) → let s = sheet (by-ends c) in Laid (ends s) (c .put-ends .last .1 .1 .0)
 laid-ends c =
     let h = past (by-ends c) in
-    lay _ (row-fits _ h entersPart _ (omega arith)) (lay _ (row-fits _ h exitsPart _ (omega arith)) (laid-from (c .before .before .before)) refl) (c .put-ends .ensures)
+    lay _ (row-fits _ h entersPart _ (omega arith))
+    (lay _ (row-fits _ h exitsPart _ (omega arith)) (laid-from (c .before .before .before)) refl) (c .put-ends .ensures)
 
 laid-loses : (c : tie.After-put-changes) → let s = sheet (by-loses c) in Laid (losesPiece s ∷ ends s) (c .put-changes .last .1 .0)
 laid-loses c =

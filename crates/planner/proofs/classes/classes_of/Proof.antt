@@ -14,7 +14,8 @@ use Rattle.planner.proofs.classes.classes_of.Statement.{statement}
 use Rattle.planner.proofs.classes.classes_of.Tie as tie
 
 abbrev Inv-loop : tie.InvT-loop
-Inv-loop sheet count timing₀ certain₀ t₀ timing certain t = (t ≤ tOf sheet) × (tOf sheet ≤ 64) × (timing ≡ setOf t (isTimer sheet)) × (certain ≡ setOf t (isSure sheet))
+Inv-loop sheet count timing₀ certain₀ t₀ timing certain t =
+    (t ≤ tOf sheet) × (tOf sheet ≤ 64) × (timing ≡ setOf t (isTimer sheet)) × (certain ≡ setOf t (isSure sheet))
 
 abbrev μ-loop : tie.MeasureT-loop
 μ-loop sheet count timing₀ certain₀ t₀ timing certain t = tOf sheet - t
@@ -45,20 +46,18 @@ loop-less c = omega arith
 
 loop-again : tie.Need-loop-again Inv-loop μ-loop
 loop-again c =
-    let l = c .before .before .before .before .before .loop in
-    let s = c .before .before .before .before .before .before .before .before .args .sheet .now in (
+    let l = c .before .before .before .before .before .loop in (
       omega arith,
       l .inv .1,
-      setOf-tested (isTimer s) (l .t) (l .inv .2) (c .before .before .single-if .ensures) (c .before .before .before .is-timer .ensures),
-      setOf-tested (isSure s) (l .t) (l .inv .3) (c .single-if2 .ensures) (c .before .is-sure .ensures),
+      setOf-tested _ _ (l .inv .2) (c .before .before .single-if .ensures) (c .before .before .before .is-timer .ensures),
+      setOf-tested _ _ (l .inv .3) (c .single-if2 .ensures) (c .before .is-sure .ensures),
     )
 
 returns : tie.Need-returns Inv-loop μ-loop
 unfolding timers sure
 returns c =
     let l = c .before .loop in
-    let s = c .before .before .before .before .args .sheet .now in
-    (setOf-width (isTimer s) (l .inv .2) (omega arith), setOf-width (isSure s) (l .inv .3) (omega arith))
+    (setOf-width _ (l .inv .2) (omega arith), setOf-width _ (l .inv .3) (omega arith))
 
 pub classes-of-spec : {M : Type 1} → statement M
 classes-of-spec =

@@ -47,21 +47,17 @@ loop-less c = omega arith
 
 loop-again : tie.Need-loop-again Inv-loop μ-loop
 loop-again c =
-    let b = c .before .before .before .before .before .before in
     let l = c .before .before .before .loop in
-    let e = c .before .is-conflict .ensures in
-    let p = rival (b .args .sheet .now) (b .args .t) in (
+    let e = c .before .is-conflict .ensures in (
       omega arith,
       l .inv .1,
-      ⊎-elim (λ w. setOf-added p (l .u) (l .inv .2) (w .1 .ensures) e (w .0 .taken) (w .2))
-          (λ w. setOf-passed p (l .u) (l .inv .2) e (w .0 .left) (w .1)) (c .if1 .came),
+      ⊎-elim (λ w. setOf-added _ _ (l .inv .2) (w .1 .ensures) e (w .0 .taken) (w .2))
+          (λ w. setOf-passed _ _ (l .inv .2) e (w .0 .left) (w .1)) (c .if1 .came),
     )
 
 returns : tie.Need-returns Inv-loop μ-loop
 unfolding conflictsOf
-returns c =
-    let b = c .before .before .before .before in
-    setOf-width (rival (b .args .sheet .now) (b .args .t)) (c .before .loop .inv .2) (omega arith)
+returns c = setOf-width _ (c .before .loop .inv .2) (omega arith)
 
 pub conflicts-of-spec : {M : Type 1} → statement M
 conflicts-of-spec =

@@ -1,5 +1,5 @@
 -- `planner::conflicts::put_conflicts` meets its contract. Assumes nothing.
-use mathlib.Core.Path.{_≡_, _∙_}
+use mathlib.Core.Path.{_≡_}
 use Prim.Native.Nat.{_-_, _≤_}
 use native.Mathlib.Omega.{arith}
 use borrow.Author.Needs.{needs}
@@ -9,7 +9,7 @@ use Rattle.meaning.specs.Sheet.{tOf}
 use Rattle.meaning.proofs.SheetLaws.{sound, t-le}
 use Rattle.reaction.specs.Plan.{conflictsPart, conflictsOf}
 use Rattle.sheet.proofs.Past.{head-read}
-use Rattle.planner.proofs.PartLaws.{part-none, part-turn, part-width}
+use Rattle.planner.proofs.PartLaws.{part-none, part-turn, part-done}
 use Rattle.planner.proofs.conflicts.put_conflicts.Statement.{statement}
 use Rattle.planner.proofs.conflicts.put_conflicts.Tie as tie
 
@@ -52,12 +52,11 @@ loop-again : tie.Need-loop-again Inv-loop μ-loop
 loop-again c =
     let b = c .before .before .before .before .before .before .before in
     let l = c .before .before .before .loop in
-    (omega arith, l .inv .1, part-turn (b .args .plan .now) conflictsPart (conflictsOf (b .args .sheet .now)) (l .t) (omega arith) (l .inv .2) (c .conflicts-of .ensures))
+    let f = conflictsOf (b .args .sheet .now) in
+    (omega arith, l .inv .1, part-turn (b .args .plan .now) conflictsPart f (l .t) (omega arith) (l .inv .2) (c .conflicts-of .ensures))
 
 returns : tie.Need-returns Inv-loop μ-loop
-returns c =
-    let b = c .before .before .before .before .before in
-    c .before .loop .inv .2 ∙ part-width (b .args .plan .now) conflictsPart (conflictsOf (b .args .sheet .now)) (omega arith)
+returns c = part-done _ _ _ _ (c .before .loop .inv .2) (omega arith)
 
 pub put-conflicts-spec : {M : Type 1} → statement M
 put-conflicts-spec =

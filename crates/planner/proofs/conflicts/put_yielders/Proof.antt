@@ -1,5 +1,5 @@
 -- `planner::conflicts::put_yielders` meets its contract. Assumes nothing.
-use mathlib.Core.Path.{_≡_, _∙_}
+use mathlib.Core.Path.{_≡_}
 use Prim.Native.Nat.{_-_, _≤_, _<_}
 use native.Mathlib.Omega.{arith}
 use borrow.Author.Needs.{needs}
@@ -9,7 +9,7 @@ use Rattle.meaning.specs.Sheet.{tOf}
 use Rattle.meaning.proofs.SheetLaws.{sound, t-le, n-le, source-lt}
 use Rattle.reaction.specs.Plan.{yieldersPart, yieldersOf}
 use Rattle.sheet.proofs.Past.{head-read, record-read}
-use Rattle.planner.proofs.PartLaws.{part-none, part-turn, part-width}
+use Rattle.planner.proofs.PartLaws.{part-none, part-turn, part-done}
 use Rattle.planner.proofs.ConflictLaws.{yielders-from, yielders-conflicts, yielders-word}
 use Rattle.planner.proofs.conflicts.put_yielders.Statement.{statement}
 use Rattle.planner.proofs.conflicts.put_yielders.Tie as tie
@@ -93,9 +93,7 @@ loop-again c =
     (omega arith, l .inv .1, part-turn p yieldersPart (yieldersOf s) (l .t) (omega arith) (l .inv .2) word)
 
 returns : tie.Need-returns Inv-loop μ-loop
-returns c =
-    let b = c .before .before .before .before in
-    c .before .loop .inv .2 ∙ part-width (b .args .plan .now) yieldersPart (yieldersOf (b .args .sheet .now)) (omega arith)
+returns c = part-done _ _ _ _ (c .before .loop .inv .2) (omega arith)
 
 pub put-yielders-spec : {M : Type 1} → statement M
 put-yielders-spec =

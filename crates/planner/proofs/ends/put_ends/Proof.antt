@@ -10,7 +10,7 @@ use Rattle.meaning.specs.Hierarchy.{exits, enters}
 use Rattle.meaning.proofs.SheetLaws.{sound, t-le}
 use Rattle.sheet.proofs.Past.{head-read}
 use Rattle.reaction.specs.Plan.{exitsPart, entersPart}
-use Rattle.planner.proofs.PartLaws.{part-none, parts-turn, parts-width}
+use Rattle.planner.proofs.PartLaws.{part-none, parts-turn, parts-done}
 use Rattle.planner.proofs.ends.put_ends.Statement.{statement}
 use Rattle.planner.proofs.ends.put_ends.Tie as tie
 
@@ -25,7 +25,8 @@ transition-count-requires : tie.Need-transition-count-requires Inv-loop μ-loop
 transition-count-requires c κs = head-read (c .before .args .sheet .now) (c .before .pre .0)
 
 loop-holds : tie.Need-loop-holds Inv-loop μ-loop
-loop-holds c = (omega arith, t-le _ (sound _ (c .before .before .pre .0)), part-none (c .before .before .args .plan .now) exitsPart _ ∙ part-none _ entersPart _)
+loop-holds c =
+    (omega arith, t-le _ (sound _ (c .before .before .pre .0)), part-none (c .before .before .args .plan .now) exitsPart _ ∙ part-none _ entersPart _)
 
 exited-by-requires : tie.Need-exited-by-requires Inv-loop μ-loop
 exited-by-requires c κs =
@@ -72,13 +73,11 @@ loop-again c =
     let b = c .before .before .before .before .before .before in
     let l = c .before .before .before .loop in
     let s = b .args .sheet .now in
-    (omega arith, l .inv .1, parts-turn (b .args .plan .now) exitsPart entersPart (exits s) (enters s) (l .t) (omega arith) (omega arith) (l .inv .2) (c .before .exited-by .ensures) (c .entered-by .ensures))
+    let turn = parts-turn (b .args .plan .now) exitsPart entersPart (exits s) (enters s) (l .t) (omega arith) (omega arith) (l .inv .2) in
+    (omega arith, l .inv .1, turn (c .before .exited-by .ensures) (c .entered-by .ensures))
 
 returns : tie.Need-returns Inv-loop μ-loop
-returns c =
-    let b = c .before .before .before .before in
-    let s = b .args .sheet .now in
-    c .before .loop .inv .2 ∙ parts-width (b .args .plan .now) exitsPart entersPart (exits s) (enters s) (omega arith)
+returns c = parts-done _ _ _ _ _ _ (c .before .loop .inv .2) (omega arith)
 
 pub put-ends-spec : {M : Type 1} → statement M
 put-ends-spec =

@@ -1,5 +1,5 @@
 -- `planner::hits::put_hits` meets its contract. Assumes nothing.
-use mathlib.Core.Path.{_≡_, _∙_}
+use mathlib.Core.Path.{_≡_}
 use Prim.Native.Nat.{_-_, _^_, _≤_}
 use native.Mathlib.Omega.{arith}
 use borrow.Author.Needs.{needs}
@@ -9,13 +9,14 @@ use Rattle.meaning.specs.Sheet.{kOf}
 use Rattle.meaning.proofs.SheetLaws.{sound, k-le}
 use Rattle.reaction.specs.Plan.{hitsPart, hitsOf}
 use Rattle.sheet.proofs.Past.{head-read}
-use Rattle.planner.proofs.PartLaws.{part-none, part-turn, part-width}
+use Rattle.planner.proofs.PartLaws.{part-none, part-turn, part-done}
 use Rattle.planner.proofs.HitLaws.{inputs-le, inputs-count}
 use Rattle.planner.proofs.hits.put_hits.Statement.{statement}
 use Rattle.planner.proofs.hits.put_hits.Tie as tie
 
 abbrev Inv-loop : tie.InvT-loop
-Inv-loop sheet certain plan₀ count i₀ plan i = (i ≤ 2 ^ kOf sheet) × (2 ^ kOf sheet ≤ 64) × (count ≡ 2 ^ kOf sheet) × (plan ≡ over plan₀ hitsPart (rowFrom 0 i (hitsOf sheet)))
+Inv-loop sheet certain plan₀ count i₀ plan i =
+    (i ≤ 2 ^ kOf sheet) × (2 ^ kOf sheet ≤ 64) × (count ≡ 2 ^ kOf sheet) × (plan ≡ over plan₀ hitsPart (rowFrom 0 i (hitsOf sheet)))
 
 abbrev μ-loop : tie.MeasureT-loop
 μ-loop sheet certain plan₀ count i₀ plan i = 2 ^ kOf sheet - i
@@ -66,10 +67,7 @@ loop-again c =
     )
 
 returns : tie.Need-returns Inv-loop μ-loop
-returns c =
-    let b = c .before .before .before .before in
-    let l = c .before .loop in
-    l .inv .3 ∙ part-width (b .args .plan .now) hitsPart (hitsOf (b .args .sheet .now)) (omega arith)
+returns c = part-done _ _ _ _ (c .before .loop .inv .3) (omega arith)
 
 pub put-hits-spec : {M : Type 1} → statement M
 put-hits-spec =

@@ -1,5 +1,5 @@
 -- `planner::sources::put_changes` meets its contract. Assumes nothing.
-use mathlib.Core.Path.{_≡_, _∙_}
+use mathlib.Core.Path.{_≡_}
 use Prim.Native.Nat.{_-_, _≤_}
 use native.Mathlib.Omega.{arith}
 use borrow.Author.Needs.{needs}
@@ -8,7 +8,7 @@ use Rattle.meaning.specs.Lists.{rowFrom}
 use Rattle.meaning.specs.Sheet.{tOf}
 use Rattle.meaning.proofs.SheetLaws.{sound, t-le}
 use Rattle.sheet.proofs.Past.{head-read}
-use Rattle.planner.proofs.PartLaws.{part-none, part-turn, part-width}
+use Rattle.planner.proofs.PartLaws.{part-none, part-turn, part-done}
 use Rattle.planner.proofs.SourceLaws.{changeOf, change-from, change-word}
 use Rattle.planner.proofs.sources.put_changes.Statement.{statement}
 use Rattle.planner.proofs.sources.put_changes.Tie as tie
@@ -59,14 +59,12 @@ loop-again c =
     let s = b .args .sheet .now in
     let p = b .args .plan .now in
     let word : c .from-set .result ≡ changeOf s p (b .args .sets) (l .t) =
-    change-word s p (b .args .sets) (b .args .at) (l .t) (l .inv .2) (omega arith) (omega arith) (c .before .before .mode-set .ensures) (c .from-set .ensures) in
+    change-word s p (b .args .sets) (b .args .at) (l .t) (l .inv .2) (omega arith) (omega arith)
+    (c .before .before .mode-set .ensures) (c .from-set .ensures) in
     (omega arith, l .inv .1, part-turn p (b .args .at) (changeOf s p (b .args .sets)) (l .t) (omega arith) (l .inv .2) word)
 
 returns : tie.Need-returns Inv-loop μ-loop
-returns c =
-    let l = c .before .loop in
-    let b = c .before .before .before .before in
-    l .inv .2 ∙ part-width (b .args .plan .now) (b .args .at) (changeOf (b .args .sheet .now) (b .args .plan .now) (b .args .sets)) (omega arith)
+returns c = part-done _ _ _ _ (c .before .loop .inv .2) (omega arith)
 
 pub put-changes-spec : {M : Type 1} → statement M
 put-changes-spec =

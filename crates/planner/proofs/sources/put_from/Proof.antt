@@ -23,7 +23,9 @@ transition-count-requires : tie.Need-transition-count-requires Inv-loop μ-loop
 transition-count-requires c κs = head-read (c .before .args .sheet .now) (c .before .pre .0)
 
 loop-holds : tie.Need-loop-holds Inv-loop μ-loop
-loop-holds c = (omega arith, t-le _ (sound _ (c .before .before .pre .0)), from-start (c .before .before .args .sheet .now) (c .before .before .args .plan .now) (omega arith) (c .before .before .pre .2))
+loop-holds c =
+    let b = c .before .before in
+    (omega arith, t-le _ (sound _ (b .pre .0)), from-start (b .args .sheet .now) (b .args .plan .now) (omega arith) (b .pre .2))
 
 source-requires : tie.Need-source-requires Inv-loop μ-loop
 source-requires c κs =
