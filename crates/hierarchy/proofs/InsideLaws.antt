@@ -35,15 +35,14 @@ Added s m inside = (p : ℕ) → p < nOf s → getD inside p 0 ≡ setOf (nOf s)
 module _ (s : List ℕ) where
   added-e : (m p y : ℕ) → T (addedFrom s m p y) → Held s m p y
   unfolding addedFrom
-  added-e m p y h = go (or-e (eqb y p) (some (nOf s) (λ c. isChild s p c && leb m c && contains s c y)) h)
-    where
-      go : T (eqb y p) ⊎ T (some (nOf s) (λ c. isChild s p c && leb m c && contains s c y)) → Held s m p y
-      go (inl e) = inl (eqb→eq y p e)
-      go (inr k) =
-          let r = some-e (nOf s) (λ c. isChild s p c && leb m c && contains s c y) k in
-          let c = r .0 in
-          let l = and-l (isChild s p c && leb m c) (contains s c y) (r .2) in
-          inr (c, r .1, and-l (isChild s p c) (leb m c) l, leb→le m c (and-r (isChild s p c) (leb m c) l), and-r (isChild s p c && leb m c) (contains s c y) (r .2))
+  added-e m p y h =
+      ⊎-elim (λ e. inl (eqb→eq y p e))
+      (λ k.
+      let r = some-e (nOf s) (λ c. isChild s p c && leb m c && contains s c y) k in
+      let c = r .0 in
+      let l = and-l (isChild s p c && leb m c) (contains s c y) (r .2) in
+      inr (c, r .1, and-l (isChild s p c) (leb m c) l, leb→le m c (and-r (isChild s p c) (leb m c) l), and-r (isChild s p c && leb m c) (contains s c y) (r .2)))
+      (or-e (eqb y p) (some (nOf s) (λ c. isChild s p c && leb m c && contains s c y)) h)
 
   added-itself : (m : ℕ) {p y : ℕ} → y ≡ p → T (addedFrom s m p y)
   unfolding addedFrom
