@@ -41,7 +41,8 @@ module _ (s : List ℕ) where
       let r = some-e (nOf s) (λ c. isChild s p c && leb m c && contains s c y) k in
       let c = r .0 in
       let l = and-l (isChild s p c && leb m c) (contains s c y) (r .2) in
-      inr (c, r .1, and-l (isChild s p c) (leb m c) l, leb→le m c (and-r (isChild s p c) (leb m c) l), and-r (isChild s p c && leb m c) (contains s c y) (r .2)))
+      let w = and-r (isChild s p c && leb m c) (contains s c y) (r .2) in
+      inr (c, r .1, and-l (isChild s p c) (leb m c) l, leb→le m c (and-r (isChild s p c) (leb m c) l), w))
       (or-e (eqb y p) (some (nOf s) (λ c. isChild s p c && leb m c && contains s c y)) h)
 
   added-itself : (m : ℕ) {p y : ℕ} → y ≡ p → T (addedFrom s m p y)
