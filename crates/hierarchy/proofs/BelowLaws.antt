@@ -1,7 +1,7 @@
 -- Completion from a mode down: the depth never matters, the equations by which the code runs, and that it is document 01's
 -- completion. Assumes nothing.
 use mathlib.Core.Path.{_≡_, refl, sym, ap, _∙_, subst}
-use mathlib.Core.Logic.{_⊎_, inl, inr}
+use mathlib.Core.Logic.{_⊎_, inl, inr, ⊎-elim}
 use mathlib.Core.Bool.{Bool, true, false, not, _&&_, cond}
 use mathlib.Core.List.{List}
 use Prim.Native.Nat.{ℕ, zero, suc, _+_, _≤_, _<_}
@@ -168,11 +168,7 @@ module _ (s : List ℕ) (sd : Sound s) where
 
     branch-e : (m y : ℕ) → T (has (branch s x m) y) → (y ≡ m) ⊎ T (has (completedBelow s x m) y)
     unfolding branch
-    branch-e m y h = go (union-e (single m) (completedBelow s x m) y h)
-      where
-        go : T (has (single m) y) ⊎ T (has (completedBelow s x m) y) → (y ≡ m) ⊎ T (has (completedBelow s x m) y)
-        go (inl a) = inl (single-e m y a)
-        go (inr a) = inr a
+    branch-e m y h = ⊎-elim (λ a. inl (single-e m y a)) (λ a. inr a) (union-e (single m) (completedBelow s x m) y h)
 
     branch-top : (m : ℕ) → T (has (branch s x m) m)
     unfolding branch

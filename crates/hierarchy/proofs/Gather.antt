@@ -1,7 +1,7 @@
 -- The highest number below k that passes a test, and the union of sets over the numbers below k that pass one: what each holds,
 -- and one turn of the loop that makes it. Assumes nothing.
 use mathlib.Core.Path.{_≡_, refl, ap₂, subst}
-use mathlib.Core.Logic.{_⊎_, inl, inr}
+use mathlib.Core.Logic.{_⊎_, inl, inr, ⊎-elim}
 use mathlib.Core.Bool.{Bool, true, false, cond}
 use Prim.Native.Nat.{ℕ, zero, suc, _+_, _<_}
 use native.Mathlib.Nat.{le-refl, not-suc-le-zero, le-of-suc-le-suc, eq-or-lt-of-le}
@@ -24,11 +24,7 @@ module _ (p : ℕ → Bool) (d : ℕ) where
   last-cases (suc k) = go (p k) refl (last-cases k)
     where
       none : p k ≡ false → ((i : ℕ) → i < k → T (p i) → ⊥) → (i : ℕ) → i < suc k → T (p i) → ⊥
-      none e f i l h = at (eq-or-lt-of-le (le-of-suc-le-suc l))
-        where
-          at : (i ≡ k) ⊎ (i < k) → ⊥
-          at (inl q) = of-false e (subst (λ (j : ℕ). T (p j)) q h)
-          at (inr q) = f i q h
+      none e f i l h = ⊎-elim (λ q. of-false e (subst (λ (j : ℕ). T (p j)) q h)) (λ q. f i q h) (eq-or-lt-of-le (le-of-suc-le-suc l))
 
       go : (b : Bool) → p k ≡ b → ((last p d k < k) × T (p (last p d k))) ⊎ ((last p d k ≡ d) × ((i : ℕ) → i < k → T (p i) → ⊥))
           → ((cond b k (last p d k) < suc k) × T (p (cond b k (last p d k)))) ⊎ ((cond b k (last p d k) ≡ d) × ((i : ℕ) → i < suc k → T (p i) → ⊥))
@@ -45,11 +41,7 @@ module _ (p : ℕ → Bool) (d : ℕ) where
   last-miss k e = rw (add-one, e)
 
   pub last-none : (k : ℕ) → ((i : ℕ) → i < k → p i ≡ false) → last p d k ≡ d
-  last-none k f = go (last-cases k)
-    where
-      go : ((last p d k < k) × T (p (last p d k))) ⊎ ((last p d k ≡ d) × ((i : ℕ) → i < k → T (p i) → ⊥)) → last p d k ≡ d
-      go (inl h) = absurd (of-false (f (last p d k) (h .0)) (h .1))
-      go (inr h) = h .0
+  last-none k f = ⊎-elim (λ h. absurd (of-false (f (last p d k) (h .0)) (h .1))) (λ h. h .0) (last-cases k)
 
 -- ---- the union of g i over the numbers i below k that pass p
 
@@ -62,11 +54,8 @@ module _ (p : ℕ → Bool) (g : ℕ → ℕ) where
       go : (b : Bool) → p k ≡ b → T (has (cond b (union (gather p g k) (g k)) (gather p g k)) y)
           → (T (has (gather p g k) y) → (c : ℕ) × (c < k) × T (p c) × T (has (g c) y)) → (c : ℕ) × (c < suc k) × T (p c) × T (has (g c) y)
       go false e j ih = let r = ih j in (r .0, omega (arith, r .1), r .2, r .3)
-      go true e j ih = at (union-e (gather p g k) (g k) y j)
-        where
-          at : T (has (gather p g k) y) ⊎ T (has (g k) y) → (c : ℕ) × (c < suc k) × T (p c) × T (has (g c) y)
-          at (inl a) = let r = ih a in (r .0, omega (arith, r .1), r .2, r .3)
-          at (inr a) = (k, le-refl (suc k), of-true e, a)
+      go true e j ih =
+          ⊎-elim (λ a. let r = ih a in (r .0, omega (arith, r .1), r .2, r .3)) (λ a. (k, le-refl (suc k), of-true e, a)) (union-e (gather p g k) (g k) y j)
 
   pub gather-i : (k y c : ℕ) → c < k → T (p c) → T (has (g c) y) → T (has (gather p g k) y)
   unfolding gather

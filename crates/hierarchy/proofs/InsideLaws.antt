@@ -1,18 +1,17 @@
 -- The modes within each mode, added up from the highest mode down. Assumes nothing.
 use mathlib.Core.Path.{_≡_, refl, sym, ap, ap₂, _∙_, subst}
-use mathlib.Core.Logic.{_⊎_, inl, inr}
+use mathlib.Core.Logic.{_⊎_, inl, inr, ⊎-elim}
 use mathlib.Core.Bool.{Bool, true, false, _&&_, _||_}
 use mathlib.Core.List.{List}
 use Prim.Native.Nat.{ℕ, _+_, _-_, _≤_, _<_}
 use native.Mathlib.Nat.{lt-of-le-of-lt, eq-or-lt-of-le}
 use native.Mathlib.Omega.{arith}
-use lib.Dec.{T, eqb, leb, eqb→eq, eqb-refl, leb→le, le→leb}
+use lib.Dec.{T, eqb, leb, eqb→eq, leb→le, le→leb}
 use lib.ListN.{length, getD, set}
-use lib.Seq.{getD-set-same, getD-set-other}
-use borrow.Author.Count.{below-more}
-use borrow.Author.Tests.{eqb-true, eqb-false}
+use borrow.Author.Tests.{eqb-true, eqb-false, eq-eqb}
 use Rattle.sets.specs.Sets.{union, single, setOf, some}
-use Rattle.sets.proofs.Tests.{and-l, and-r, and-i, or-e, or-l, or-r, bool-ext}
+use Rattle.sets.proofs.Loops.{set-word}
+use Rattle.sets.proofs.Tests.{of-true, and-l, and-r, and-i, or-e, or-l, or-r, bool-ext}
 use Rattle.sets.proofs.Membership.{has-union, has-single, has-setOf, single-lt, setOf-lt, setOf-ext, setOf-same, union-lt}
 use Rattle.sets.proofs.Facts.{some-e, some-i}
 use Rattle.meaning.specs.Sheet.{nOf, parent, isChild, contains}
@@ -33,28 +32,22 @@ Held s m p y = (y ≡ p) ⊎ ((c : ℕ) × (c < nOf s) × T (isChild s p c) × (
 abbrev pub Added : List ℕ → ℕ → List ℕ → Type 0
 Added s m inside = (p : ℕ) → p < nOf s → getD inside p 0 ≡ setOf (nOf s) (addedFrom s m p)
 
--- each mode alone, up to m
-pub alone-turn : (r : List ℕ) (m b : ℕ) → m < length r → b ≡ single m → ((i : ℕ) → i < m → getD r i 0 ≡ single i)
-    → (i : ℕ) → i < m + 1 → getD (set r m b) i 0 ≡ single i
-alone-turn r m b l e h =
-    below-more (λ (i : ℕ). getD (set r m b) i 0 ≡ single i) m (λ i k. getD-set-other r m i b 0 (λ q. omega arith) ∙ h i k) (getD-set-same r m b 0 l ∙ e)
-
 module _ (s : List ℕ) where
   added-e : (m p y : ℕ) → T (addedFrom s m p y) → Held s m p y
   unfolding addedFrom
-  added-e m p y h = go (or-e (eqb y p) (some (nOf s) (λ c. isChild s p c && leb m c && contains s c y)) h)
-    where
-      go : T (eqb y p) ⊎ T (some (nOf s) (λ c. isChild s p c && leb m c && contains s c y)) → Held s m p y
-      go (inl e) = inl (eqb→eq y p e)
-      go (inr k) =
-          let r = some-e (nOf s) (λ c. isChild s p c && leb m c && contains s c y) k in
-          let c = r .0 in
-          let l = and-l (isChild s p c && leb m c) (contains s c y) (r .2) in
-          inr (c, r .1, and-l (isChild s p c) (leb m c) l, leb→le m c (and-r (isChild s p c) (leb m c) l), and-r (isChild s p c && leb m c) (contains s c y) (r .2))
+  added-e m p y h =
+      ⊎-elim (λ e. inl (eqb→eq y p e))
+      (λ k.
+      let r = some-e (nOf s) (λ c. isChild s p c && leb m c && contains s c y) k in
+      let c = r .0 in
+      let l = and-l (isChild s p c && leb m c) (contains s c y) (r .2) in
+      let w = and-r (isChild s p c && leb m c) (contains s c y) (r .2) in
+      inr (c, r .1, and-l (isChild s p c) (leb m c) l, leb→le m c (and-r (isChild s p c) (leb m c) l), w))
+      (or-e (eqb y p) (some (nOf s) (λ c. isChild s p c && leb m c && contains s c y)) h)
 
-  added-itself : (m p : ℕ) → T (addedFrom s m p p)
+  added-itself : (m : ℕ) {p y : ℕ} → y ≡ p → T (addedFrom s m p y)
   unfolding addedFrom
-  added-itself m p = or-l (eqb p p) (some (nOf s) (λ c. isChild s p c && leb m c && contains s c p)) (eqb-refl p)
+  added-itself m {p} {y} e = or-l (eqb y p) (some (nOf s) (λ c. isChild s p c && leb m c && contains s c y)) (of-true (eq-eqb y p e))
 
   added-child : (m p y c : ℕ) → c < nOf s → T (isChild s p c) → m ≤ c → T (contains s c y) → T (addedFrom s m p y)
   unfolding addedFrom
@@ -68,12 +61,8 @@ module _ (s : List ℕ) (sd : Sound s) where
   start-words : (p : ℕ) → p < nOf s → single p ≡ setOf (nOf s) (addedFrom s (nOf s) p)
   start-words p l =
       setOf-ext (nOf s) (addedFrom s (nOf s) p) (single-lt (nOf s) p l) (λ y k. has-single p y ∙ bool-ext (eqb y p) (addedFrom s (nOf s) p y)
-      (λ h. subst (λ (i : ℕ). T (addedFrom s (nOf s) p i)) (sym (eqb→eq y p h)) (added-itself s (nOf s) p))
-      (λ h. only y (added-e s (nOf s) p y h)))
-    where
-      only : (y : ℕ) → Held s (nOf s) p y → T (eqb y p)
-      only y (inl e) = subst (λ (i : ℕ). T (eqb y i)) e (eqb-refl y)
-      only y (inr r) = absurd (omega (arith, r .1, r .3))
+      (λ h. added-itself s (nOf s) (eqb→eq y p h))
+      (λ h. ⊎-elim (λ e. of-true (eq-eqb y p e)) (λ r. absurd (omega (arith, r .1, r .3))) (added-e s (nOf s) p y h)))
 
   -- where all children of p are added, word p is whole
   whole-test : (m p y : ℕ) → m ≤ p + 1 → y < nOf s → addedFrom s m p y ≡ contains s p y
@@ -86,7 +75,7 @@ module _ (s : List ℕ) (sd : Sound s) where
           contains-i s (tree s sd) y (within-trans (up (q .0) (subst (λ (i : ℕ). Within s i (parent s (r .0))) (q .1) here)) (contains-e s (tree s sd) (r .0) y (r .4))) l
 
       shown : (b : Bool) → eqb p y ≡ b → Within s p y → T (addedFrom s m p y)
-      shown true e w = subst (λ (i : ℕ). T (addedFrom s m p i)) (eqb-true p y e) (added-itself s m p)
+      shown true e w = added-itself s m (sym (eqb-true p y e))
       shown false e w =
           let r = child-holding s (tree s sd) p y l w (eqb-false p y e) in
           let cn = lt-of-le-of-lt (within-le s (tree s sd) (r .holds) l) l in
@@ -96,50 +85,37 @@ module _ (s : List ℕ) (sd : Sound s) where
   whole-word : (m p : ℕ) → m ≤ p + 1 → setOf (nOf s) (addedFrom s m p) ≡ setOf (nOf s) (contains s p)
   whole-word m p h = setOf-same (nOf s) (addedFrom s m p) (contains s p) (λ y l. whole-test m p y h l)
 
+  -- from m + 1 on, and from m on: the difference is mode m
+  more : (m p y : ℕ) → Held s (m + 1) p y → T (addedFrom s m p y)
+  more m p y (inl e) = added-itself s m e
+  more m p y (inr r) = added-child s m p y (r .0) (r .1) (r .2) (omega (arith, r .3)) (r .4)
+
+  less : (m p y : ℕ) → Held s m p y → T (addedFrom s (m + 1) p y) ⊎ (T (isChild s p m) × T (contains s m y))
+  less m p y (inl e) = inl (added-itself s (m + 1) e)
+  less m p y (inr r) =
+      ⊎-elim (λ e. inr (subst (λ (i : ℕ). T (isChild s p i) × T (contains s i y)) (sym e) (r .2, r .4)))
+      (λ k. inl (added-child s (m + 1) p y (r .0) (r .1) (r .2) (omega arith) (r .4))) (eq-or-lt-of-le (r .3))
+
   -- mode m is added to its parent, and to no other word
   other-word : (m p : ℕ) → (p ≡ parent s m → ⊥) → setOf (nOf s) (addedFrom s (m + 1) p) ≡ setOf (nOf s) (addedFrom s m p)
   other-word m p ne =
       setOf-same (nOf s) (addedFrom s (m + 1) p) (addedFrom s m p) (λ y l. bool-ext (addedFrom s (m + 1) p y) (addedFrom s m p y)
-      (λ h. fwd y (added-e s (m + 1) p y h)) (λ h. bwd y (added-e s m p y h)))
-    where
-      fwd : (y : ℕ) → Held s (m + 1) p y → T (addedFrom s m p y)
-      fwd y (inl e) = subst (λ (i : ℕ). T (addedFrom s m p i)) (sym e) (added-itself s m p)
-      fwd y (inr r) = added-child s m p y (r .0) (r .1) (r .2) (omega (arith, r .3)) (r .4)
-
-      bwd : (y : ℕ) → Held s m p y → T (addedFrom s (m + 1) p y)
-      bwd y (inl e) = subst (λ (i : ℕ). T (addedFrom s (m + 1) p i)) (sym e) (added-itself s (m + 1) p)
-      bwd y (inr r) = at (eq-or-lt-of-le (r .3))
-        where
-          at : (m ≡ r .0) ⊎ (m < r .0) → T (addedFrom s (m + 1) p y)
-          at (inl e) = absurd (ne (sym (ap (parent s) e ∙ isChild-e s p (r .0) (r .2) .1)))
-          at (inr k) = added-child s (m + 1) p y (r .0) (r .1) (r .2) (omega arith) (r .4)
+      (λ h. more m p y (added-e s (m + 1) p y h))
+      (λ h. ⊎-elim (λ k. k) (λ k. absurd (ne (sym (isChild-e s p m (k .0) .1)))) (less m p y (added-e s m p y h))))
 
   parent-word : (m : ℕ) → 0 < m → m < nOf s → union (setOf (nOf s) (addedFrom s (m + 1) (parent s m))) (setOf (nOf s) (contains s m)) ≡ setOf (nOf s) (addedFrom s m (parent s m))
   parent-word m pos l =
+      let p = parent s m in
       setOf-ext (nOf s) (addedFrom s m p) (union-lt (nOf s) (setOf-lt (nOf s) (addedFrom s (m + 1) p)) (setOf-lt (nOf s) (contains s m))) (λ y k.
       has-union (setOf (nOf s) (addedFrom s (m + 1) p)) (setOf (nOf s) (contains s m)) y
       ∙ ap₂ _||_ (has-setOf (nOf s) (addedFrom s (m + 1) p) y k) (has-setOf (nOf s) (contains s m) y k)
       ∙ bool-ext (addedFrom s (m + 1) p y || contains s m y) (addedFrom s m p y)
-      (λ h. fwd y (or-e (addedFrom s (m + 1) p y) (contains s m y) h)) (λ h. bwd y (added-e s m p y h)))
-    where
-      p : ℕ
-      p = parent s m
-
-      fwd : (y : ℕ) → T (addedFrom s (m + 1) p y) ⊎ T (contains s m y) → T (addedFrom s m p y)
-      fwd y (inl h) = at (added-e s (m + 1) p y h)
-        where
-          at : Held s (m + 1) p y → T (addedFrom s m p y)
-          at (inl e) = subst (λ (i : ℕ). T (addedFrom s m p i)) (sym e) (added-itself s m p)
-          at (inr r) = added-child s m p y (r .0) (r .1) (r .2) (omega (arith, r .3)) (r .4)
-      fwd y (inr h) = added-child s m p y m l (isChild-i s p m pos refl) (omega arith) h
-
-      bwd : (y : ℕ) → Held s m p y → T (addedFrom s (m + 1) p y || contains s m y)
-      bwd y (inl e) = or-l (addedFrom s (m + 1) p y) (contains s m y) (subst (λ (i : ℕ). T (addedFrom s (m + 1) p i)) (sym e) (added-itself s (m + 1) p))
-      bwd y (inr r) = at (eq-or-lt-of-le (r .3))
-        where
-          at : (m ≡ r .0) ⊎ (m < r .0) → T (addedFrom s (m + 1) p y || contains s m y)
-          at (inl e) = or-r (addedFrom s (m + 1) p y) (contains s m y) (subst (λ (i : ℕ). T (contains s i y)) (sym e) (r .4))
-          at (inr k) = or-l (addedFrom s (m + 1) p y) (contains s m y) (added-child s (m + 1) p y (r .0) (r .1) (r .2) (omega arith) (r .4))
+      (λ h.
+      ⊎-elim (λ a. more m p y (added-e s (m + 1) p y a)) (added-child s m p y m l (isChild-i s p m pos refl) (omega arith))
+      (or-e (addedFrom s (m + 1) p y) (contains s m y) h))
+      (λ h.
+      ⊎-elim (or-l (addedFrom s (m + 1) p y) (contains s m y)) (λ a. or-r (addedFrom s (m + 1) p y) (contains s m y) (a .1))
+      (less m p y (added-e s m p y h))))
 
   -- ---- the loop: its start, its turn at mode m, its end
 
@@ -148,19 +124,11 @@ module _ (s : List ℕ) (sd : Sound s) where
 
   turn-at : (inside : List ℕ) (m p : ℕ) → 0 < m → m < nOf s → p ≡ parent s m → p < length inside → Added s (m + 1) inside
       → Added s m (set inside p (union (getD inside p 0) (getD inside m 0)))
-  turn-at inside m p pos l e room a q k = go (eqb q p) refl
+  turn-at inside m p pos l e room a q k =
+      set-word inside p _ q room (λ i. w-is ∙ ap (λ (j : ℕ). setOf (nOf s) (addedFrom s m j)) (sym i)) (λ i. a q k ∙ other-word m q (λ j. i (j ∙ sym e)))
     where
-      w : ℕ
-      w = union (getD inside p 0) (getD inside m 0)
-
-      w-is : w ≡ setOf (nOf s) (addedFrom s m p)
+      w-is : union (getD inside p 0) (getD inside m 0) ≡ setOf (nOf s) (addedFrom s m p)
       w-is = ap₂ union (a p (rw e (parent-n s (tree s sd) m l))) (a m l ∙ whole-word (m + 1) m (omega arith)) ∙ rw e (parent-word m pos l)
-
-      go : (b : Bool) → eqb q p ≡ b → getD (set inside p w) q 0 ≡ setOf (nOf s) (addedFrom s m q)
-      go true b =
-          let i = eqb-true q p b in
-          ap (λ (j : ℕ). getD (set inside p w) j 0) i ∙ getD-set-same inside p w 0 room ∙ w-is ∙ ap (λ (j : ℕ). setOf (nOf s) (addedFrom s m j)) (sym i)
-      go false i = getD-set-other inside p q w 0 (eqb-false q p i) ∙ a q k ∙ other-word m q (λ j. eqb-false q p i (j ∙ sym e))
 
   pub added-turn : (inside : List ℕ) (m p : ℕ) → 1 < m → m ≤ nOf s → p ≡ parent s (m - 1) → p < length inside → Added s m inside
       → Added s (m - 1) (set inside p (union (getD inside p 0) (getD inside (m - 1) 0)))

@@ -1,7 +1,7 @@
 -- What a transition exits and enters: its ends in its meeting mode, and the path down to its target, climbed one parent at a time
 -- and completed. Assumes nothing.
 use mathlib.Core.Path.{_≡_, refl, sym, ap, _∙_, subst}
-use mathlib.Core.Logic.{_⊎_, inl, inr}
+use mathlib.Core.Logic.{_⊎_, inl, inr, ⊎-elim}
 use mathlib.Core.Bool.{Bool, true, false, not, _&&_}
 use mathlib.Core.List.{List}
 use Prim.Native.Nat.{ℕ, _≤_, _<_}
@@ -99,11 +99,9 @@ module _ (s : List ℕ) (sd : Sound s) (m : ℕ) (mn : m < nOf s) where
           path-i c (parent s y) (parent-n s (tree s sd) y l) (k .1) (within-trans (up (k .0) here) (r .2))
 
       lone : (y z : ℕ) → y < nOf s → z < nOf s → 0 < y → 0 < z → parent s y ≡ parent s z → T (has (pathOf s c m) y) → T (has (pathOf s c m) z) → y ≡ z
-      lone y z ly lz py pz q h k = go (within-total (path-e c y h .2) (path-e c z k .2))
-        where
-          go : Within s y z ⊎ Within s z y → y ≡ z
-          go (inl v) = siblings s (tree s sd) y z ly py pz q v
-          go (inr v) = sym (siblings s (tree s sd) z y lz pz py (sym q) v)
+      lone y z ly lz py pz q h k =
+          ⊎-elim (siblings s (tree s sd) y z ly py pz q) (λ v. sym (siblings s (tree s sd) z y lz pz py (sym q) v))
+          (within-total (path-e c y h .2) (path-e c z k .2))
 
 -- ---- the ends of a transition
 

@@ -1,6 +1,6 @@
 -- The parts laid one after the other, none over another, make the plan. Assumes nothing.
 use mathlib.Core.Path.{_≡_, refl, ap, _∙_}
-use mathlib.Core.Logic.{_⊎_, inl, inr}
+use mathlib.Core.Logic.{_⊎_, inl, inr, ⊎-elim}
 use mathlib.Core.Bool.{Bool, true, false, _&&_, _||_}
 use mathlib.Core.List.{List, [], _∷_}
 use Prim.Native.Nat.{ℕ, zero, suc, _+_, _%_, _^_, _≤_, _<_}
@@ -82,12 +82,9 @@ fits-nth (p ∷ ps) (suc k) h b = fits-nth ps k (h .1) (and-r (beside (nth ps k)
 
 -- two parts whose rooms lie beside each other do so themselves
 apart : (p q : Piece) → Fits p → Fits q → T (beside p q) → (p .at + p .width ≤ q .at) ⊎ (q .at + q .width ≤ p .at)
-apart p q a b h = go (or-e (leb (p .at + p .room) (q .at)) (leb (q .at + q .room) (p .at)) h) (a .within) (b .within)
-  where
-    go : T (leb (p .at + p .room) (q .at)) ⊎ T (leb (q .at + q .room) (p .at)) → p .width ≤ p .room → q .width ≤ q .room
-        → (p .at + p .width ≤ q .at) ⊎ (q .at + q .width ≤ p .at)
-    go (inl x) c d = inl (omega (arith, leb→le (p .at + p .room) (q .at) x))
-    go (inr x) c d = inr (omega (arith, leb→le (q .at + q .room) (p .at) x))
+apart p q a b h =
+    ⊎-elim (λ x. inl (omega (arith, a .within, leb→le (p .at + p .room) (q .at) x))) (λ x. inr (omega (arith, b .within, leb→le (q .at + q .room) (p .at) x)))
+    (or-e (leb (p .at + p .room) (q .at)) (leb (q .at + q .room) (p .at)) h)
 
 laid-part : (ps : List Piece) (k : ℕ) (l : List ℕ) → length l ≡ planSize → AllFit ps → T (free ps k)
     → let q = nth ps k in WordsAt (laid ps l) (q .at) (q .width) (q .word)

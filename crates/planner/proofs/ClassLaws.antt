@@ -1,7 +1,7 @@
 -- Every transition is a timer, or one that an input set can trigger by itself, or one to be judged in each round; the timers' delays.
 -- Assumes nothing.
 use mathlib.Core.Path.{_≡_, refl, sym, ap, ap₂, _∙_}
-use mathlib.Core.Logic.{_⊎_, inl, inr}
+use mathlib.Core.Logic.{⊎-elim}
 use mathlib.Core.Bool.{Bool, true, false, not, _&&_, _||_, cond}
 use mathlib.Core.List.{List}
 use Prim.Native.Nat.{ℕ, _<_}
@@ -20,11 +20,7 @@ use Rattle.planner.specs.Parts.{isSure, sure}
 
 -- neither a timer nor a sure one, of a transition that is one of delay v or not (d), or has event terms alone (e)
 neither : (v : ℕ) (d e : Bool) → not (d && ltb 0 v || cond d (eqb v 0) e) ≡ (not d && not e)
-neither v true e = go (eq-zero-or-pos v)
-  where
-    go : (v ≡ 0) ⊎ (0 < v) → not (ltb 0 v || eqb v 0) ≡ false
-    go (inl k) = rw (le-ltb 0 v (omega arith), eq-eqb v 0 k)
-    go (inr k) = rw (lt-ltb 0 v k)
+neither v true e = ⊎-elim (λ k. rw (le-ltb 0 v (omega arith), eq-eqb v 0 k)) (λ k. rw (lt-ltb 0 v k)) (eq-zero-or-pos v)
 neither v false e = refl
 
 module _ (s : List ℕ) where

@@ -1,16 +1,16 @@
 -- Conflict and giving way, by the words for what is within each mode. Assumes nothing.
-use mathlib.Core.Path.{_≡_, ap, ap₂, _∙_}
+use mathlib.Core.Path.{_≡_, sym, ap, ap₂, _∙_}
 use mathlib.Core.Logic.{inr}
-use mathlib.Core.Bool.{Bool, not, _&&_, _||_}
+use mathlib.Core.Bool.{Bool, true, false, not, _&&_, _||_, and-true, and-false, and-comm}
 use mathlib.Core.List.{List}
 use Prim.Native.Nat.{ℕ, _+_, _≤_, _<_}
 use native.Mathlib.Nat.{lt-of-le-of-lt}
 use native.Mathlib.Omega.{arith}
-use lib.Dec.{T, eqb, eqb→eq, T-not, not-T}
+use lib.Dec.{T, eqb, eqb→eq}
 use lib.ListN.{length, getD}
 use borrow.Author.Tests.{eq-eqb}
 use Rattle.sets.specs.Sets.{has, meet, minus, single, setOf}
-use Rattle.sets.proofs.Tests.{of-true, and-l, and-r, and-i, bool-ext, eqb-sym}
+use Rattle.sets.proofs.Tests.{of-true, eqb-sym}
 use Rattle.sets.proofs.Membership.{has-meet, has-minus, has-single, has-setOf, setOf-ext, meet-le}
 use Rattle.rows.specs.Over.{over}
 use Rattle.meaning.specs.Lists.{rowFrom}
@@ -29,15 +29,9 @@ use Rattle.planner.proofs.PartLaws.{part-out, part-beside, front-in}
 
 -- of a source within (a) that is not the same (e), of two that are not one (n), in conflict (c)
 yields : (a e n c : Bool) → (T n → T e) → ((a && not e) && (not n && c)) ≡ (c && (not e && a))
-yields a e n c h =
-    bool-ext ((a && not e) && (not n && c)) (c && (not e && a))
-    (λ k.
-    and-i c (not e && a) (and-r (not n) c (and-r (a && not e) (not n && c) k))
-    (and-i (not e) a (and-r a (not e) (and-l (a && not e) (not n && c) k)) (and-l a (not e) (and-l (a && not e) (not n && c) k))))
-    (λ k.
-    let ne = and-l (not e) a (and-r c (not e && a) k) in
-    and-i (a && not e) (not n && c) (and-i a (not e) (and-r (not e) a (and-r c (not e && a) k)) ne)
-    (and-i (not n) c (not-T n (λ x. T-not e ne (h x))) (and-l c (not e && a) k)))
+yields a true n c h = rw (and-false a) (sym (and-false c))
+yields a false true c h = absurd (h tt)
+yields a false false c h = rw (and-true a) (and-comm a c)
 
 module _ (s : List ℕ) (h : sheetRefusal s ≡ 0) where
   pub meetings-done : (l r : List ℕ) (t : ℕ) → 64 ≤ length l → t ≡ tOf s → r ≡ over l 0 (rowFrom 0 t (meeting s)) → Meetings s r

@@ -4,13 +4,13 @@ use mathlib.Core.Bool.{Bool, true, false, _&&_, _||_, cond, and-true}
 use mathlib.Core.List.{List}
 use Prim.Native.Nat.{ℕ, _*_, _%_, _^_, _≤_, _<_}
 use native.Mathlib.Nat.{lt-of-lt-of-le, pow-le-pow-right}
-use native.Mathlib.Decide.{decLt}
 use native.Mathlib.Omega.{arith}
 use lib.Dec.{eqb, ltb}
 use Rattle.sets.specs.Sets.{has, those, setOf}
 use Rattle.sets.proofs.Tests.{of-true}
 use Rattle.sets.proofs.Facts.{setOf-e}
-use Rattle.sets.proofs.Membership.{ext, one-shl, has-above, has-setOf, setOf-lt, has-those, those-lt}
+use Rattle.sets.proofs.Membership.{one-shl, has-setOf, setOf-lt, setOf-ext, has-those}
+use Rattle.sets.proofs.Those.{those-part-lt}
 use Rattle.meaning.specs.Sheet.{kOf, tOf}
 use Rattle.meaning.specs.Check.{sheetRefusal}
 use Rattle.meaning.specs.Reaction.{isDelay, delay, alternative}
@@ -46,21 +46,15 @@ module _ (s : List ℕ) where
       abbrev test : ℕ → Bool
       test t = cond (isDelay s t) (eqb (delay s t) 0) (eventsOnly s t && ltb 0 (alternative s i noSets t))
 
-      has-hits : (t : ℕ) → t < 64 → Dec (t < tOf s) → has (those 64 (setOf (tOf s) (isSure s)) (hitBy s (factsOf i noSets))) t ≡ has (setOf (tOf s) test) t
+      has-hits : (t : ℕ) → t < tOf s → has (those 64 (setOf (tOf s) (isSure s)) (hitBy s (factsOf i noSets))) t ≡ test t
       unfolding isSure
-      has-hits t l (yes k) =
-          has-those 64 (setOf (tOf s) (isSure s)) (hitBy s (factsOf i noSets)) t l
-          ∙ ap₂ (λ (a c : Bool). a && (isDelay s t || c)) (has-setOf (tOf s) (isSure s) t k) (ap (ltb 0) (alternative-by s i noSets b t h k))
+      has-hits t l =
+          has-those 64 (setOf (tOf s) (isSure s)) (hitBy s (factsOf i noSets)) t (lt-of-lt-of-le l (t-le s (sound s h)))
+          ∙ ap₂ (λ (a c : Bool). a && (isDelay s t || c)) (has-setOf (tOf s) (isSure s) t l) (ap (ltb 0) (alternative-by s i noSets b t h l))
           ∙ sure-hit (isDelay s t) (eqb (delay s t) 0) (eventsOnly s t) (ltb 0 (alternative s i noSets t))
-          ∙ sym (has-setOf (tOf s) test t k)
-      has-hits t l (no k) =
-          has-those 64 (setOf (tOf s) (isSure s)) (hitBy s (factsOf i noSets)) t l
-          ∙ ap (λ (a : Bool). a && hitBy s (factsOf i noSets) t) (has-above (tOf s) (setOf (tOf s) (isSure s)) t (setOf-lt (tOf s) (isSure s)) (omega arith))
-          ∙ sym (has-above (tOf s) (setOf (tOf s) test) t (setOf-lt (tOf s) test) (omega arith))
 
       pub hits-is : {x : ℕ} {f : List ℕ} → x ≡ sure s → f ≡ factsOf i noSets → those 64 x (hitBy s f) ≡ hitsOf s i
       unfolding sure hitsOf
       hits-is e k =
           rw (e, k)
-          (ext 64 (those-lt 64 (setOf (tOf s) (isSure s)) (hitBy s (factsOf i noSets)))
-          (lt-of-lt-of-le (setOf-lt (tOf s) test) (pow-le-pow-right {n = 2} (omega arith) (t-le s (sound s h)))) (λ t l. has-hits t l (decLt t (tOf s))))
+          (setOf-ext (tOf s) test (those-part-lt 64 (tOf s) (setOf (tOf s) (isSure s)) (hitBy s (factsOf i noSets)) (setOf-lt (tOf s) (isSure s))) has-hits)

@@ -5,10 +5,11 @@ use mathlib.Core.Logic.{_⊎_, inl, inr}
 use mathlib.Core.List.{List, [], _∷_, _++_}
 use Prim.Native.Nat.{ℕ, _+_, _-_, _≤_, _<_}
 use native.Mathlib.Nat.{zero-add}
-use native.Mathlib.Decide.{ℕ-discrete, decLe, decLt}
+use native.Mathlib.Decide.{decLe, decLt}
 use native.Mathlib.Omega.{arith}
 use lib.ListN.{length, getD, set, take, drop, length-append, length-set, List·getD-append}
 use lib.Seq.{length-take-le, ext-getD, getD-take, getD-drop, getD-append-add, getD-set-same, getD-set-other}
+use Rattle.sets.proofs.Loops.{set-word}
 use Rattle.rows.specs.Over.{over}
 use Rattle.rows.proofs.OverLaws.{length-over, over-nil, over-sets}
 use Rattle.meaning.specs.Lists.{rowFrom}
@@ -105,23 +106,17 @@ module _ (l : List ℕ) (at : ℕ) (f : ℕ → ℕ) where
       let m = over l at (rowFrom 0 t f) in
       let long : length m ≡ length l = part-length l at t f h in
       part-is l at (t + 1) f (omega arith) (set m (at + t) (f t)) (length-set m (at + t) (f t) ∙ long)
-      (λ u a. inside u a (ℕ-discrete u t))
+      (λ u a.
+      set-word m (at + t) (f t) (at + u) (omega arith) (λ e. let q : t ≡ u = omega arith in ap f q) (λ e. part-in l at t f h u (omega arith)))
       (λ i a. getD-set-other m (at + t) i (f t) 0 (λ e. a (omega arith) (omega arith)) ∙ part-out l at t f h i (λ x y. a x (omega arith)))
-    where
-      inside : (u : ℕ) → u < t + 1 → Dec (u ≡ t) → getD (set (over l at (rowFrom 0 t f)) (at + t) (f t)) (at + u) 0 ≡ f u
-      inside u a (yes e) =
-          rw e (getD-set-same (over l at (rowFrom 0 t f)) (at + t) (f t) 0 (omega (arith, part-length l at t f (omega arith))))
-      inside u a (no e) =
-          getD-set-other (over l at (rowFrom 0 t f)) (at + t) (at + u) (f t) 0 (λ x. e (omega arith))
-          ∙ part-in l at t f (omega arith) u (omega arith)
 
   pub part-turn : (t : ℕ) {m : List ℕ} {r : ℕ} → at + t < length l → m ≡ over l at (rowFrom 0 t f) → r ≡ f t
       → set m (at + t) r ≡ over l at (rowFrom 0 (t + 1) f)
   part-turn t k e a = rw (e, a) (next t k)
 
   -- where it ends
-  pub part-width : {t w : ℕ} → t ≡ w → over l at (rowFrom 0 t f) ≡ over l at (rowFrom 0 w f)
-  part-width e = rw e
+  pub part-done : {m : List ℕ} (t : ℕ) {w : ℕ} → m ≡ over l at (rowFrom 0 t f) → t ≡ w → m ≡ over l at (rowFrom 0 w f)
+  part-done t e k = rw k at e
 
 -- a word stored beside a part, and two parts laid in one loop: one turn
 set-beside : (l : List ℕ) (at w : ℕ) (f : ℕ → ℕ) → at + w ≤ length l → (i v : ℕ) → i < length l → (at ≤ i → i < at + w → ⊥)
@@ -129,17 +124,15 @@ set-beside : (l : List ℕ) (at w : ℕ) (f : ℕ → ℕ) → at + w ≤ length
 set-beside l at w f h i v b k =
     part-is (set l i v) at w f (rw (length-set l i v) h) (set m i v) (length-set m i v ∙ long ∙ sym (length-set l i v))
     (λ t a. getD-set-other m i (at + t) v 0 (λ e. k (omega arith) (omega arith)) ∙ part-in l at w f h t a)
-    (λ j a. beside j a (ℕ-discrete j i))
+    (λ j a.
+    set-word m i v j (omega (arith, long)) (λ e. rw e (sym (getD-set-same l i v 0 b)))
+    (λ e. part-out l at w f h j a ∙ sym (getD-set-other l i j v 0 e)))
   where
     m : List ℕ
     m = over l at (rowFrom 0 w f)
 
     long : length m ≡ length l
     long = part-length l at w f h
-
-    beside : (j : ℕ) → (at ≤ j → j < at + w → ⊥) → Dec (j ≡ i) → getD (set m i v) j 0 ≡ getD (set l i v) j 0
-    beside j a (yes e) = rw e (getD-set-same m i v 0 (omega (arith, long)) ∙ sym (getD-set-same l i v 0 b))
-    beside j a (no e) = getD-set-other m i j v 0 e ∙ part-out l at w f h j a ∙ sym (getD-set-other l i j v 0 e)
 
 pub parts-turn : (l : List ℕ) (at bt : ℕ) (f g : ℕ → ℕ) (t : ℕ) {m : List ℕ} {x y : ℕ} → at + t < bt → bt + t < length l
     → m ≡ over (over l at (rowFrom 0 t f)) bt (rowFrom 0 t g) → x ≡ f t → y ≡ g t
@@ -153,9 +146,9 @@ parts-turn l at bt f g t {m} {x} {y} a b e p q =
     ∙ ap (λ (k : List ℕ). over k bt (rowFrom 0 t g)) (part-turn l at f t (omega arith) refl p) in
     part-turn (over l at (rowFrom 0 (t + 1) f)) bt g t (omega (arith, part-length l at (t + 1) f (omega arith))) first q
 
-pub parts-width : (l : List ℕ) (at bt : ℕ) (f g : ℕ → ℕ) {t w : ℕ} → t ≡ w
-    → over (over l at (rowFrom 0 t f)) bt (rowFrom 0 t g) ≡ over (over l at (rowFrom 0 w f)) bt (rowFrom 0 w g)
-parts-width l at bt f g e = rw e
+pub parts-done : (l : List ℕ) (at bt : ℕ) (f g : ℕ → ℕ) {m : List ℕ} (t : ℕ) {w : ℕ} → m ≡ over (over l at (rowFrom 0 t f)) bt (rowFrom 0 t g) → t ≡ w
+    → m ≡ over (over l at (rowFrom 0 w f)) bt (rowFrom 0 w g)
+parts-done l at bt f g t e k = rw k at e
 
 -- the same for a row at the front of a list
 pub front-turn : (l : List ℕ) (f : ℕ → ℕ) (t : ℕ) {m : List ℕ} {r : ℕ} → t < length l → m ≡ over l 0 (rowFrom 0 t f) → r ≡ f t
@@ -172,15 +165,14 @@ part-same l at w f h k = part-is l at w f h l refl k (λ i a. refl)
 pub part-set : (l : List ℕ) (at w : ℕ) (f g : ℕ → ℕ) (k : ℕ) → at + w ≤ length l → k < w → ((m : ℕ) → (m ≡ k → ⊥) → f m ≡ g m)
     → set (over l at (rowFrom 0 w f)) (at + k) (g k) ≡ over l at (rowFrom 0 w g)
 part-set l at w f g k h b e =
-    part-is l at w g h (set m (at + k) (g k)) (length-set m (at + k) (g k) ∙ part-length l at w f h) (λ u a. inside u a (ℕ-discrete u k))
+    part-is l at w g h (set m (at + k) (g k)) (length-set m (at + k) (g k) ∙ part-length l at w f h)
+    (λ u a.
+    set-word m (at + k) (g k) (at + u) (omega (arith, part-length l at w f h)) (λ x. let q : k ≡ u = omega arith in ap g q)
+    (λ x. part-in l at w f h u a ∙ e u (λ y. x (omega arith))))
     (λ i a. getD-set-other m (at + k) i (g k) 0 (λ x. a (omega arith) (omega arith)) ∙ part-out l at w f h i a)
   where
     m : List ℕ
     m = over l at (rowFrom 0 w f)
-
-    inside : (u : ℕ) → u < w → Dec (u ≡ k) → getD (set m (at + k) (g k)) (at + u) 0 ≡ g u
-    inside u a (yes x) = rw x (getD-set-same m (at + k) (g k) 0 (omega (arith, part-length l at w f h)))
-    inside u a (no x) = getD-set-other m (at + k) (at + u) (g k) 0 (λ y. x (omega arith)) ∙ part-in l at w f h u a ∙ e u x
 
 -- a part of one word
 pub part-word : (l : List ℕ) (at v : ℕ) → at < length l → set l at v ≡ over l at (rowFrom 0 1 (λ _. v))

@@ -5,11 +5,9 @@ use mathlib.Core.Bool.{Bool, _&&_, and-comm}
 use mathlib.Core.List.{List}
 use Prim.Native.Nat.{ℕ, _+_, _%_, _^_, _<_}
 use native.Mathlib.Nat.{lt-of-le-of-lt, lt-of-lt-of-le, mod-eq-of-lt, pow-le-pow-right}
-use native.Mathlib.Decide.{ℕ-discrete}
 use native.Mathlib.Omega.{arith}
 use lib.Dec.{T, eqb, eqb→eq, eqb-refl}
-use lib.ListN.{length, getD, set}
-use lib.Seq.{getD-set-same, getD-set-other}
+use lib.ListN.{length, getD}
 use Rattle.sets.specs.Sets.{has, union, meet, single, members, someIn}
 use Rattle.sets.proofs.Tests.{bool-ext}
 use Rattle.sets.proofs.Facts.{has-lt, someIn-e, someIn-i}
@@ -75,15 +73,6 @@ start-word s plan p =
     (mod-eq-of-lt
     (lt-of-lt-of-le (setOf-lt (nOf s) (λ m. completedIn s m (single 0) m)) (pow-le-pow-right {n = 2} (omega arith) (n-le s (sound s (p .passes))))))
 
--- an array filled word by word with f 0, f 1, ..: one turn, and its end
-module _ (f : ℕ → ℕ) where
-  pub row-turn : (r : List ℕ) (t : ℕ) {v : ℕ} → t < length r → ((u : ℕ) → u < t → getD r u 0 ≡ f u) → v ≡ f t
-      → (u : ℕ) → u < t + 1 → getD (set r t v) u 0 ≡ f u
-  row-turn r t {v} l h e u k = go (ℕ-discrete u t)
-    where
-      go : Dec (u ≡ t) → getD (set r t v) u 0 ≡ f u
-      go (yes i) = rw i (getD-set-same r t v 0 l ∙ e)
-      go (no i) = getD-set-other r t u v 0 i ∙ h u (omega arith)
-
-  pub row-done : (r : List ℕ) (w : ℕ) → length r ≡ w → ((u : ℕ) → u < w → getD r u 0 ≡ f u) → r ≡ rowFrom 0 w f
-  row-done r w n h = rw n at (rowFrom-getD r 0) ∙ rowFrom-ext (λ u. getD r u 0) f 0 w (λ u a b. h u (omega arith))
+-- the end of a loop that fills an array word by word with f 0, f 1, ..
+pub row-done : (f : ℕ → ℕ) (r : List ℕ) (w : ℕ) → length r ≡ w → ((u : ℕ) → u < w → getD r u 0 ≡ f u) → r ≡ rowFrom 0 w f
+row-done f r w n h = rw n at (rowFrom-getD r 0) ∙ rowFrom-ext (λ u. getD r u 0) f 0 w (λ u a b. h u (omega arith))

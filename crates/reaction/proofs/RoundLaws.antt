@@ -1,6 +1,6 @@
 -- A round by the words of the plan is the round of the meaning, and the two derived sets stay right. Assumes nothing.
 use mathlib.Core.Path.{_≡_, refl, sym, ap, ap₂, _∙_, subst}
-use mathlib.Core.Bool.{Bool, true, false, not, _&&_, _||_, cond, and-true}
+use mathlib.Core.Bool.{Bool, true, false, not, _&&_, _||_, cond, and-true, and-comm}
 use mathlib.Core.List.{List}
 use Prim.Native.Nat.{ℕ, suc, _+_, _-_, _%_, _^_, _≤_, _<_}
 use native.Mathlib.Nat.{sub-zero, lt-of-lt-of-le, lt-of-le-of-lt, mod-eq-of-lt}
@@ -10,13 +10,12 @@ use lib.Dec.{T, eqb, ltb}
 use lib.Pow.{pow-mono}
 use lib.ListN.{getD}
 use borrow.Author.Tests.{eq-eqb, ne-eqb}
-use Rattle.sets.specs.Sets.{has, union, meet, minus, meets, setOf, those, members, some, someIn}
-use Rattle.sets.proofs.Tests.{and-l, and-r, and-i, bool-ext}
-use Rattle.sets.proofs.Membership.{has-none, ext, same-members, has-union, has-meet, has-minus, minus-meet, has-setOf, setOf-lt, setOf-ext, setOf-same, union-lt, minus-le, has-those, those-lt}
-use Rattle.sets.proofs.Facts.{setOf-e, setOf-i, those-e, those-i, some-e, some-i, someIn-e, someIn-i}
+use Rattle.sets.specs.Sets.{has, union, meet, minus, meets, setOf, members, someIn}
+use Rattle.sets.proofs.Tests.{and-l}
+use Rattle.sets.proofs.Membership.{has-none, ext, has-union, has-minus, minus-meet, has-setOf, setOf-lt, setOf-ext, setOf-same, union-lt, minus-le, has-those, those-lt}
 use Rattle.sets.proofs.Members.{fold, fold-part}
-use Rattle.sets.proofs.Quantifiers.{someIn-same, meets-some}
-use Rattle.sets.proofs.Widths.{has-over, union-over}
+use Rattle.sets.proofs.Quantifiers.{some-same, someIn-same, someIn-swap, meets-some}
+use Rattle.sets.proofs.Widths.{meet-setOf, has-over, union-over}
 use Rattle.meaning.specs.Sheet.{nOf, tOf, source}
 use Rattle.meaning.specs.Refusal.{numberOf}
 use Rattle.meaning.specs.declared.refusal.Refusal.{Refusal}
@@ -102,18 +101,6 @@ module _ (s : List ℕ) where
   unfolding enters complete
   enters-small t = setOf-lt (nOf s) _
 
-  conflicts-small : (t : ℕ) → conflictsOf s t < 2 ^ tOf s
-  unfolding conflictsOf
-  conflicts-small t = setOf-lt (tOf s) _
-
-  exitsOf-small : (es : ℕ) → exitsOf s es < 2 ^ nOf s
-  unfolding exitsOf
-  exitsOf-small es = setOf-lt (nOf s) _
-
-  entering-small : (es : ℕ) → entering s es < 2 ^ nOf s
-  unfolding entering
-  entering-small es = setOf-lt (nOf s) _
-
   -- ---- what transitions do together, by the words of the plan
 
   -- the transitions whose source is in a union
@@ -137,7 +124,7 @@ module _ (s : List ℕ) where
         ∙ union-over 64 (tOf s) w es (λ t. getD plan (at + t) 0) g h l r b
 
     pub moves-all : MovesOf s es (fold (addMove plan) noMoves (members 64 es))
-    unfolding exitsOf entering
+    unfolding exitsOf entering conflictsOf
     moves-all =
         record {
           exits = moved (nOf s) exitsPart (λ m. m .exits) (exits s) (λ m t. refl) refl (pl .exitsAt) exits-small;
@@ -148,42 +135,27 @@ module _ (s : List ℕ) where
           gains =
               moved (tOf s) gainsPart (λ m. m .gains) (λ t. sourcesIn s (enters s t)) (λ m t. refl) refl (pl .gainsAt) (λ t. sourcesIn-lt s (enters s t))
               ∙ sources-over (nOf s) es (enters s) enters-small;
-          clashes = moved (tOf s) conflictsPart (λ m. m .clashes) (conflictsOf s) (λ m t. refl) refl (pl .conflictsAt) conflicts-small;
+          clashes = moved (tOf s) conflictsPart (λ m. m .clashes) (conflictsOf s) (λ m t. refl) refl (pl .conflictsAt) (λ t. setOf-lt (tOf s) _);
         }
 
   -- ---- 8 and 9
 
   clash : (es : ℕ) (m : Moves) → MovesOf s es m → meets (m .clashes) es ≡ ambiguous s es
-  unfolding ambiguous conflictsOf
+  unfolding ambiguous conflictsOf someIn
   clash es m h =
       ap (λ (x : ℕ). meets x es) (h .clashes)
       ∙ meets-some (tOf s) (setOf (tOf s) c) es (setOf-lt (tOf s) c)
-      ∙ bool-ext (some (tOf s) (λ u. has (setOf (tOf s) c) u && has es u)) (ambiguous s es) forth back
+      ∙ some-same (tOf s) (λ u. has (setOf (tOf s) c) u && has es u) (λ u. has es u && c u)
+      (λ u l. and-comm (has (setOf (tOf s) c) u) (has es u) ∙ ap (λ (b : Bool). has es u && b) (has-setOf (tOf s) c u l))
+      ∙ someIn-swap (tOf s) (tOf s) es es (λ u t. has (conflictsOf s t) u)
+      ∙ someIn-same (tOf s) es (λ t. someIn (tOf s) es (has (conflictsOf s t))) (λ t. someIn (tOf s) es (apart t))
+      (λ t l. someIn-same (tOf s) es (has (conflictsOf s t)) (apart t) (λ u k. has-setOf (tOf s) (apart t) u k))
     where
       c : ℕ → Bool
       c u = someIn (tOf s) es (λ t. has (conflictsOf s t) u)
 
       apart : ℕ → ℕ → Bool
       apart t u = not (eqb t u) && conflict s t u
-
-      forth : T (some (tOf s) (λ u. has (setOf (tOf s) c) u && has es u)) → T (ambiguous s es)
-      forth e =
-          let r = some-e (tOf s) (λ u. has (setOf (tOf s) c) u && has es u) e in
-          let u = r .0 in
-          let f = someIn-e (tOf s) es (λ t. has (conflictsOf s t) u) (setOf-e (tOf s) c u (and-l (has (setOf (tOf s) c) u) (has es u) (r .2)) .1) in
-          let t = f .0 in
-          someIn-i (tOf s) es (λ v. someIn (tOf s) es (apart v)) t (f .1) (f .2)
-          (someIn-i (tOf s) es (apart t) u (r .1) (and-r (has (setOf (tOf s) c) u) (has es u) (r .2)) (setOf-e (tOf s) (apart t) u (f .3) .1))
-
-      back : T (ambiguous s es) → T (some (tOf s) (λ u. has (setOf (tOf s) c) u && has es u))
-      back e =
-          let r = someIn-e (tOf s) es (λ v. someIn (tOf s) es (apart v)) e in
-          let t = r .0 in
-          let f = someIn-e (tOf s) es (apart t) (r .3) in
-          let u = f .0 in
-          let clashing = someIn-i (tOf s) es (λ v. has (conflictsOf s v) u) t (r .1) (r .2) (setOf-i (tOf s) (apart t) u (f .1) (f .3)) in
-          some-i (tOf s) (λ v. has (setOf (tOf s) c) v && has es v) u (f .1)
-          (and-i (has (setOf (tOf s) c) u) (has es u) (setOf-i (tOf s) c u (f .1) clashing) (f .2))
 
   taken-again : (z : TickSets) (es : ℕ) → es < 2 ^ tOf s → meets es (z .taken) ≡ restless s z es
   unfolding restless someIn
@@ -193,28 +165,20 @@ module _ (s : List ℕ) where
 
   exits-active : (z : TickSets) (es : ℕ) → meet (z .modes) (exitsOf s es) ≡ exiting s z es
   unfolding exitsOf exiting
-  exits-active z es =
-      same-members (λ m.
-      has-meet (z .modes) (setOf (nOf s) p) m
-      ∙ bool-ext (has (z .modes) m && has (setOf (nOf s) p) m) (has (those (nOf s) (z .modes) p) m)
-      (λ h. let r = setOf-e (nOf s) p m (and-r (has (z .modes) m) (has (setOf (nOf s) p) m) h) in
-      those-i (nOf s) (z .modes) p m (r .0) (and-l (has (z .modes) m) (has (setOf (nOf s) p) m) h) (r .1))
-      (λ h. let r = those-e (nOf s) (z .modes) p m h in
-      and-i (has (z .modes) m) (has (setOf (nOf s) p) m) (r .1) (setOf-i (nOf s) p m (r .0) (r .2))))
-    where
-      p : ℕ → Bool
-      p m = someIn (tOf s) es (λ t. has (exits s t) m)
+  exits-active z es = meet-setOf (nOf s) (z .modes) _
 
   module _ (sd : Sound s) (z : Sets) (es : ℕ) (m : Moves) (h : MovesOf s es m) where
     -- a mode set fits 32 places
-    narrow : (x : ℕ) → x < 2 ^ nOf s → x % 2 ^ 32 ≡ x
-    narrow x l = mod-eq-of-lt (lt-of-lt-of-le l (pow-mono (n-le s sd)))
+    narrow : {x y : ℕ} → x ≡ y → y < 2 ^ nOf s → x % 2 ^ 32 ≡ y
+    narrow e l = rw e (mod-eq-of-lt (lt-of-lt-of-le l (pow-mono (n-le s sd))))
 
     exits-word : m .exits % 2 ^ 32 ≡ exitsOf s es
-    exits-word = ap (λ (x : ℕ). x % 2 ^ 32) (h .exits) ∙ narrow (exitsOf s es) (exitsOf-small es)
+    unfolding exitsOf
+    exits-word = narrow (h .exits) (setOf-lt (nOf s) _)
 
     enters-word : m .enters % 2 ^ 32 ≡ entering s es
-    enters-word = ap (λ (x : ℕ). x % 2 ^ 32) (h .enters) ∙ narrow (entering s es) (entering-small es)
+    unfolding entering
+    enters-word = narrow (h .enters) (setOf-lt (nOf s) _)
 
     after-moves : setsOf (afterMoves z m es) ≡ afterRound s (setsOf z) es
     unfolding afterRound
@@ -226,9 +190,6 @@ module _ (s : List ℕ) where
     pub live : z .live ≡ sourcesIn s (z .modes)
     pub due : z .due ≡ setOf (tOf s) (isDue s d (setsOf z))
     pub timing : (t : ℕ) → T (has (z .due) t) → T (isTimer s t)
-
-  along-start : (z : Sets) → Derived s z → Along (z .due) z
-  along-start z h = record { live = h .live; due = h .due; timing = h .timing }
 
   -- what is due of the derived set is what is due of d
   due-same : (d : ℕ) (z : Sets) → Along d z → (t : ℕ) → t < tOf s → isDue s d (setsOf z) t ≡ isDue s (z .due) (setsOf z) t
@@ -311,7 +272,7 @@ module _ (s : List ℕ) (start : Sets) (i : ℕ) where
     pub chosen : es ≡ eligible s (triggered s (z .due) i (setsOf z))
 
   pub left-start : Derived s start → Left start 0
-  left-start h = record { within = omega arith; along = along-start s start h; same = simp sub-zero }
+  left-start h = record { within = omega arith; along = record { live = h .live; due = h .due; timing = h .timing }; same = simp sub-zero }
 
   -- the tick ends with refusal `why`
   given : (z : Sets) (r : ℕ) (why : Refusal) → Left z r → record { refusal = numberOf why; sets = setsOf z; rounds = r } ≡ all

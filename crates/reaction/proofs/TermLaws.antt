@@ -1,7 +1,7 @@
 -- The terms of a transition: their kinds and values in a sheet past 1 to 6, the loop over them, what the words of a tick say of them, and
 -- what terms that speak of events only do not look at. Assumes nothing.
 use mathlib.Core.Path.{_≡_, refl, sym, ap, ap₂, _∙_, subst}
-use mathlib.Core.Logic.{_⊎_, inl, inr}
+use mathlib.Core.Logic.{_⊎_, inl, inr, ⊎-elim}
 use mathlib.Core.Bool.{Bool, true, false, not, _&&_, _||_, cond}
 use mathlib.Core.List.{List, [], _∷_}
 use Prim.Native.Nat.{ℕ, zero, suc, _+_, _-_, _*_, _^_, _≤_, _<_}
@@ -174,20 +174,20 @@ module _ (s : List ℕ) (i : ℕ) (z : TickSets) (b : i < 2 ^ 32) where
   holds-by (suc (suc (suc (suc (suc (suc (suc zero))))))) v p q = has-none v
   holds-by (suc (suc (suc (suc (suc (suc (suc (suc c)))))))) v p q = rw (ne-eqb (suc (suc (suc (suc (suc (suc (suc (suc c)))))))) 3 (λ e. omega arith)) (has-none v)
 
-  by-from : (t w j a : ℕ) (ok : Bool) → ((u : ℕ) → u < j + w → holdsBy (factsOf i z) (termKind s t u) (termValue s t u) ≡ holds s i z (termKind s t u) (termValue s t u))
-      → alternativeByFrom s (factsOf i z) t w j a ok ≡ alternativeFrom s i z t w j a ok
+  by-from : (f : List ℕ) (t w j a : ℕ) (ok : Bool) → ((u : ℕ) → u < j + w → holdsBy f (termKind s t u) (termValue s t u) ≡ holds s i z (termKind s t u) (termValue s t u))
+      → alternativeByFrom s f t w j a ok ≡ alternativeFrom s i z t w j a ok
   unfolding alternativeByFrom alternativeFrom
-  by-from t zero j a ok h = refl
-  by-from t (suc w) j a ok h =
-      let on : (u : ℕ) → u < suc j + w → holdsBy (factsOf i z) (termKind s t u) (termValue s t u) ≡ holds s i z (termKind s t u) (termValue s t u) = λ u l. h u (omega arith) in
-      ap₂ (λ (x y : ℕ). cond (eqb (termKind s t j) 7) (cond ok a x) y) (by-from t w (suc j) (suc a) true on)
-      (ap (λ (x : Bool). alternativeByFrom s (factsOf i z) t w (suc j) a (ok && x)) (h j (omega arith))
-      ∙ by-from t w (suc j) a (ok && holds s i z (termKind s t j) (termValue s t j)) on)
+  by-from f t zero j a ok h = refl
+  by-from f t (suc w) j a ok h =
+      let on : (u : ℕ) → u < suc j + w → holdsBy f (termKind s t u) (termValue s t u) ≡ holds s i z (termKind s t u) (termValue s t u) = λ u l. h u (omega arith) in
+      ap₂ (λ (x y : ℕ). cond (eqb (termKind s t j) 7) (cond ok a x) y) (by-from f t w (suc j) (suc a) true on)
+      (ap (λ (x : Bool). alternativeByFrom s f t w (suc j) a (ok && x)) (h j (omega arith))
+      ∙ by-from f t w (suc j) a (ok && holds s i z (termKind s t j) (termValue s t j)) on)
 
   pub alternative-by : (t : ℕ) → sheetRefusal s ≡ 0 → t < tOf s → alternativeBy s (factsOf i z) t ≡ alternative s i z t
   unfolding alternativeBy alternative
   alternative-by t h l =
-      by-from t (termCount s t) 0 1 true
+      by-from (factsOf i z) t (termCount s t) 0 1 true
       (λ u k. let m : u < termCount s t = omega arith in holds-by (termKind s t u) (termValue s t u) (event-small s h t u l m) (mask-lt s h t u l m))
 
 -- ---- terms that speak of events only say the same on any sets
@@ -195,31 +195,17 @@ module _ (s : List ℕ) (i : ℕ) (z : TickSets) (b : i < 2 ^ 32) where
 module _ (s : List ℕ) (i : ℕ) (y z : TickSets) where
   event-same : (c v : ℕ) → T (isEventKind c) → holds s i y c v ≡ holds s i z c v
   unfolding isEventKind holds
-  event-same c v h = pick (or-e (eqb c 1 || eqb c 2) (eqb c 7) h)
+  event-same c v h = ⊎-elim (λ k. ⊎-elim (at 1 refl) (at 2 refl) (or-e (eqb c 1) (eqb c 2) k)) (at 7 refl) (or-e (eqb c 1 || eqb c 2) (eqb c 7) h)
     where
-      at : (d : ℕ) → T (eqb c d) → holds s i y d v ≡ holds s i z d v → holds s i y c v ≡ holds s i z c v
-      at d k e = rw (eqb→eq c d k) e
+      at : (d : ℕ) → holds s i y d v ≡ holds s i z d v → T (eqb c d) → holds s i y c v ≡ holds s i z c v
+      at d e k = rw (eqb→eq c d k) e
 
-      event : T (eqb c 1) ⊎ T (eqb c 2) → holds s i y c v ≡ holds s i z c v
-      event (inl k) = at 1 k refl
-      event (inr k) = at 2 k refl
-
-      pick : T (eqb c 1 || eqb c 2) ⊎ T (eqb c 7) → holds s i y c v ≡ holds s i z c v
-      pick (inl k) = event (or-e (eqb c 1) (eqb c 2) k)
-      pick (inr k) = at 7 k refl
-
-  same-from : (t w j a : ℕ) (ok : Bool) → ((u : ℕ) → u < j + w → holds s i y (termKind s t u) (termValue s t u) ≡ holds s i z (termKind s t u) (termValue s t u))
-      → alternativeFrom s i y t w j a ok ≡ alternativeFrom s i z t w j a ok
-  unfolding alternativeFrom
-  same-from t zero j a ok h = refl
-  same-from t (suc w) j a ok h =
-      let on : (u : ℕ) → u < suc j + w → holds s i y (termKind s t u) (termValue s t u) ≡ holds s i z (termKind s t u) (termValue s t u) = λ u l. h u (omega arith) in
-      ap₂ (λ (x y : ℕ). cond (eqb (termKind s t j) 7) (cond ok a x) y) (same-from t w (suc j) (suc a) true on)
-      (ap (λ (x : Bool). alternativeFrom s i y t w (suc j) a (ok && x)) (h j (omega arith))
-      ∙ same-from t w (suc j) a (ok && holds s i z (termKind s t j) (termValue s t j)) on)
-
-  pub events-alone : (t : ℕ) → eventsOnly s t ≡ true → alternative s i y t ≡ alternative s i z t
-  unfolding eventsOnly alternative
-  events-alone t e =
-      same-from t (termCount s t) 0 1 true
-      (λ u l. event-same (termKind s t u) (termValue s t u) (every-e (termCount s t) (λ j. isEventKind (termKind s t j)) (of-true e) u (omega arith)))
+  pub events-alone : (t : ℕ) → i < 2 ^ 32 → sheetRefusal s ≡ 0 → t < tOf s → eventsOnly s t ≡ true → alternative s i y t ≡ alternative s i z t
+  unfolding eventsOnly alternativeBy alternative
+  events-alone t b h l e =
+      sym (alternative-by s i y b t h l)
+      ∙ by-from s i z b (factsOf i y) t (termCount s t) 0 1 true
+      (λ u k.
+      let m : u < termCount s t = omega arith in
+      holds-by s i y b (termKind s t u) (termValue s t u) (event-small s h t u l m) (mask-lt s h t u l m)
+      ∙ event-same (termKind s t u) (termValue s t u) (every-e (termCount s t) (λ j. isEventKind (termKind s t j)) (of-true e) u m))

@@ -69,14 +69,6 @@ module _ (s : List ℕ) where
   pub input-lt : (i : ℕ) → sheetRefusal s ≡ 0 → i < 2 ^ kOf s → i < 64
   input-lt i h l = lt-of-lt-of-le l (pow-le-pow-right {n = 2} (omega arith) (k-le s (sound s h)))
 
-  has-hitsOf : (i t : ℕ) → t < tOf s → has (hitsOf s i) t ≡ cond (isDelay s t) (eqb (delay s t) 0) (eventsOnly s t && ltb 0 (alternative s i noSets t))
-  unfolding hitsOf
-  has-hitsOf i t l = has-setOf (tOf s) _ t l
-
-  has-mixed : (t : ℕ) → t < tOf s → has (mixed s) t ≡ (not (isDelay s t) && not (eventsOnly s t))
-  unfolding mixed
-  has-mixed t l = has-setOf (tOf s) _ t l
-
   -- what is judged in each round are transitions, and no delays
   pub mixed-asks : (x t : ℕ) → has (meet x (mixed s)) t ≡ true → (t < tOf s) × (isDelay s t ≡ false)
   unfolding mixed
@@ -89,9 +81,6 @@ module _ (s : List ℕ) (h : sheetRefusal s ≡ 0) (z : Sets) (d : Derived s z) 
   abbrev judge : ℕ → Bool
   judge t = ltb 0 (alternativeBy s (factsOf i (setsOf z)) t)
 
-  due-is : (t : ℕ) → t < tOf s → has (z .due) t ≡ isDue s (z .due) (setsOf z) t
-  due-is t l = ap (λ (x : ℕ). has x t) (d .due) ∙ has-setOf (tOf s) (isDue s (z .due) (setsOf z)) t l
-
   due-waits : (t : ℕ) → isDelay s t ≡ false → has (z .due) t ≡ false
   unfolding isTimer
   due-waits t e = is-false (has (z .due) t) (λ k. of-false e (and-l (isDelay s t) (ltb 0 (delay s t)) (d .timing t k)))
@@ -99,8 +88,9 @@ module _ (s : List ℕ) (h : sheetRefusal s ≡ 0) (z : Sets) (d : Derived s z) 
   triggered-at : (t : ℕ) → t < tOf s
       → has (union (meet (z .live) (union (z .due) (hitsOf s i))) (those 64 (meet (z .live) (mixed s)) judge)) t
       ≡ ltb 0 (trigger s (z .due) i (setsOf z) t)
-  unfolding trigger
+  unfolding trigger hitsOf mixed
   triggered-at t l =
+      let small : i < 2 ^ 32 = omega (arith, input-lt s i h b) in
       let live = z .live in
       let due = z .due in
       let sets = setsOf z in
@@ -108,14 +98,15 @@ module _ (s : List ℕ) (h : sheetRefusal s ≡ 0) (z : Sets) (d : Derived s z) 
       let wait = isDelay s t in
       let now = eqb (delay s t) 0 in
       let a = alternative s i sets t in
+      let due-is : has due t ≡ isDue s due sets t = ap (λ (x : ℕ). has x t) (d .due) ∙ has-setOf (tOf s) (isDue s due sets) t l in
       let live-is : has live t ≡ on = ap (λ (x : ℕ). has x t) (d .live) ∙ has-sourcesIn s (z .modes) t l in
       has-union (meet live (union due (hitsOf s i))) (those 64 (meet live (mixed s)) judge) t
       ∙ ap₂ _||_
-      (has-meet live (union due (hitsOf s i)) t ∙ ap₂ _&&_ live-is (has-union due (hitsOf s i) t ∙ ap (λ (x : Bool). has due t || x) (has-hitsOf s i t l)))
+      (has-meet live (union due (hitsOf s i)) t ∙ ap₂ _&&_ live-is (has-union due (hitsOf s i) t ∙ ap (λ (x : Bool). has due t || x) (has-setOf (tOf s) _ t l)))
       (has-those 64 (meet live (mixed s)) judge t (lt-of-lt-of-le l (t-le s (sound s h)))
-      ∙ ap₂ _&&_ (has-meet live (mixed s) t ∙ ap₂ _&&_ live-is (has-mixed s t l)) (ap (ltb 0) (alternative-by s i sets (omega (arith, input-lt s i h b)) t h l)))
-      ∙ trigger-cases on wait now (has due t) (eventsOnly s t) a (alternative s i noSets t) (due-waits t) (events-alone s i noSets sets t)
-      ∙ ap (λ (x : Bool). ltb 0 (cond (not on) 0 (cond wait (cond (now || x) 9 0) a))) (due-is t l)
+      ∙ ap₂ _&&_ (has-meet live (mixed s) t ∙ ap₂ _&&_ live-is (has-setOf (tOf s) _ t l)) (ap (ltb 0) (alternative-by s i sets small t h l)))
+      ∙ trigger-cases on wait now (has due t) (eventsOnly s t) a (alternative s i noSets t) (due-waits t) (events-alone s i noSets sets t small h l)
+      ∙ ap (λ (x : Bool). ltb 0 (cond (not on) 0 (cond wait (cond (now || x) 9 0) a))) due-is
 
   live-lt : z .live < 2 ^ tOf s
   live-lt = subst (λ (x : ℕ). x < 2 ^ tOf s) (sym (d .live)) (sourcesIn-lt s (z .modes))

@@ -2,11 +2,16 @@
 -- one turn, where it leaves and the end. And how the code tests a call's result. Assumes nothing.
 use mathlib.Core.Path.{_≡_, refl, sym, ap, ap₂, _∙_}
 use mathlib.Core.Bool.{Bool, true, false, not, _&&_, and-assoc, and-comm}
+use mathlib.Core.List.{List}
 use Prim.Native.Nat.{ℕ, _+_, _*_, _^_, _≤_, _<_}
 use native.Mathlib.Nat.{le-antisymm, one-mul, zero-mul}
 use native.Mathlib.Numerals.{add-one}
+use native.Mathlib.Decide.{ℕ-discrete}
+use native.Mathlib.Omega.{arith}
 use lib.Bits.{or-zero-r}
 use lib.Dec.{ltb, ltb→lt}
+use lib.ListN.{length, getD, set}
+use lib.Seq.{getD-set-same, getD-set-other}
 use borrow.Author.Tests.{not-true, not-false}
 use Rattle.sets.specs.Sets.{union, single, digit, setOf, some, every}
 use Rattle.sets.proofs.Tests.{is-true, is-false, of-true, of-false, and-r}
@@ -90,3 +95,16 @@ module _ (a b f : Bool) where
 -- what its last test says where all passed
 pub and-last : (a f : Bool) (i n : ℕ) → f ≡ (a && ltb i n) → f ≡ true → i < n
 and-last a f i n h k = ltb→lt i n (and-r a (ltb i n) (of-true (sym h ∙ k)))
+
+-- ---- a list with word i stored: its word u is the stored one, or the one that was there
+pub set-word : (l : List ℕ) (i v u : ℕ) {x : ℕ} → i < length l → (u ≡ i → v ≡ x) → ((u ≡ i → ⊥) → getD l u 0 ≡ x) → getD (set l i v) u 0 ≡ x
+set-word l i v u {x} b f g = go (ℕ-discrete u i)
+  where
+    go : Dec (u ≡ i) → getD (set l i v) u 0 ≡ x
+    go (yes e) = ap (λ (j : ℕ). getD (set l i v) j 0) e ∙ getD-set-same l i v 0 b ∙ f e
+    go (no e) = getD-set-other l i u v 0 e ∙ g e
+
+-- one turn of a loop that fills a list word by word with f 0, f 1, ..
+pub row-turn : (f : ℕ → ℕ) (r : List ℕ) (t : ℕ) {v : ℕ} → t < length r → ((u : ℕ) → u < t → getD r u 0 ≡ f u) → v ≡ f t
+    → (u : ℕ) → u < t + 1 → getD (set r t v) u 0 ≡ f u
+row-turn f r t {v} l h e u k = set-word r t v u l (λ i. e ∙ ap f (sym i)) (λ i. h u (omega arith))

@@ -13,7 +13,7 @@ use borrow.Author.Tests.{eq-eqb, ne-eqb}
 use Rattle.sets.specs.Sets.{has, union, meet, minus, single, meets, some, every, someIn, everyIn, members, membersFrom, prepend, size, lowest}
 use Rattle.sets.proofs.Tests.{is-true, is-false, of-true, of-false, and-l, and-r, bool-ext}
 use Rattle.sets.proofs.Membership.{ext, has-none, has-meet, has-union, has-single, has-minus, single-lt, meet-le, minus-le}
-use Rattle.sets.proofs.Facts.{some-e, some-i, every-e, every-i, someIn-i, everyIn-e, everyIn-i}
+use Rattle.sets.proofs.Facts.{some-e, some-i, someIn-e, someIn-i, every-e, every-i, everyIn-e, everyIn-i}
 use Rattle.sets.proofs.Members.{Turn, Lowest, fold, lowest-member, empty, without-other, members-lowest, members-none, minus-member}
 
 -- ---- some number below n has p
@@ -35,6 +35,16 @@ unfolding someIn
 someIn-same w a p q e = some-same w (λ i. has a i && p i) (λ i. has a i && q i) (λ i l. ap (λ (b : Bool). has a i && b) (e i l))
 
 -- ---- every number below n has p
+
+-- two members, one of each set, in either order
+pub someIn-swap : (v w a b : ℕ) (r : ℕ → ℕ → Bool) → someIn v a (λ t. someIn w b (r t)) ≡ someIn w b (λ u. someIn v a (λ t. r t u))
+someIn-swap v w a b r = bool-ext (someIn v a (λ t. someIn w b (r t))) (someIn w b (λ u. someIn v a (λ t. r t u))) (go v w a b r) (go w v b a (λ u t. r t u))
+  where
+    go : (v w a b : ℕ) (r : ℕ → ℕ → Bool) → T (someIn v a (λ t. someIn w b (r t))) → T (someIn w b (λ u. someIn v a (λ t. r t u)))
+    go v w a b r h =
+        let f = someIn-e v a (λ t. someIn w b (r t)) h in
+        let g = someIn-e w b (r (f .0)) (f .3) in
+        someIn-i w b (λ u. someIn v a (λ t. r t u)) (g .0) (g .1) (g .2) (someIn-i v a (λ t. r t (g .0)) (f .0) (f .1) (f .2) (g .3))
 
 pub every-same : (n : ℕ) (p q : ℕ → Bool) → ((i : ℕ) → i < n → p i ≡ q i) → every n p ≡ every n q
 every-same n p q e =

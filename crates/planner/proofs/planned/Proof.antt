@@ -6,9 +6,8 @@ use native.Mathlib.Omega.{arith}
 use borrow.Author.Needs.{needs}
 use lib.ListN.{replicate, getD-replicate}
 use Rattle.meaning.specs.Check.{sheetRefusal}
-use Rattle.meaning.specs.Hierarchy.{exits, enters}
-use Rattle.reaction.specs.Plan.{exitsPart, entersPart, conflictsPart, yieldersPart, losesPart, gainsPart, fromPart, timersWord, mixedWord, startWord, planSize, conflictsOf, yieldersOf}
-use Rattle.planner.proofs.Assembly.{Laid, lay, lay-word, none-laid, laid-has, laid-long, fromPiece, rowPiece, losesPiece, gainsPiece, delaysPiece, hitsPiece, ends, changes, conflicts, classes, row-fits, hits-fit, loses-are, gains-are, planned-of}
+use Rattle.reaction.specs.Plan.{exitsPart, entersPart, conflictsPart, yieldersPart, losesPart, gainsPart, fromPart, timersWord, mixedWord, startWord, planSize, conflictsOf}
+use Rattle.planner.proofs.Assembly.{Laid, lay, lay-word, none-laid, laid-has, laid-long, fromPiece, rowPiece, losesPiece, delaysPiece, ends, changes, conflicts, classes, row-fits, hits-fit, loses-are, gains-are, planned-of}
 use Rattle.planner.proofs.planned.Statement.{statement}
 use Rattle.planner.proofs.planned.Tie as tie
 
@@ -45,50 +44,37 @@ past c = c .before .before .before .pre
 
 -- the parts laid so far, after each
 laid-from : (c : tie.After-put-from) → let s = sheet (by-from c) in Laid (fromPiece s ∷ []) (c .put-from .last .1 .0)
-laid-from c =
-    let s = sheet (by-from c) in
-    lay (fromPiece s) (record { within = omega arith; inside = omega arith }) (none-laid (replicate planSize 0) refl) (c .put-from .ensures)
+laid-from c = lay _ (record { within = omega arith; inside = omega arith }) (none-laid (replicate planSize 0) refl) (c .put-from .ensures)
 
 laid-ends : (c : tie.After-put-ends) → let s = sheet (by-ends c) in Laid (ends s) (c .put-ends .last .1 .1 .0)
 laid-ends c =
-    let s = sheet (by-ends c) in
     let h = past (by-ends c) in
-    lay (rowPiece s entersPart (enters s)) (row-fits s h entersPart (enters s) (omega arith))
-    (lay (rowPiece s exitsPart (exits s)) (row-fits s h exitsPart (exits s) (omega arith)) (laid-from (c .before .before .before)) refl) (c .put-ends .ensures)
+    lay _ (row-fits _ h entersPart _ (omega arith))
+    (lay _ (row-fits _ h exitsPart _ (omega arith)) (laid-from (c .before .before .before)) refl) (c .put-ends .ensures)
 
 laid-loses : (c : tie.After-put-changes) → let s = sheet (by-loses c) in Laid (losesPiece s ∷ ends s) (c .put-changes .last .1 .0)
 laid-loses c =
-    let s = sheet (by-loses c) in
     let h = past (by-loses c) in
     let d = laid-ends (c .before .before) in
-    lay (losesPiece s) (row-fits s h losesPart (losesPiece s .word) (omega arith)) d (loses-are s h d (c .put-changes .ensures))
+    lay _ (row-fits _ h losesPart _ (omega arith)) d (loses-are _ h d (c .put-changes .ensures))
 
 laid-gains : (c : tie.After-put-changes2) → let s = sheet (by-gains c) in Laid (changes s) (c .put-changes2 .last .1 .0)
 laid-gains c =
-    let s = sheet (by-gains c) in
     let h = past (by-gains c) in
     let d = laid-loses (c .before .before) in
-    lay (gainsPiece s) (row-fits s h gainsPart (gainsPiece s .word) (omega arith)) d (gains-are s h d (c .put-changes2 .ensures))
+    lay _ (row-fits _ h gainsPart _ (omega arith)) d (gains-are _ h d (c .put-changes2 .ensures))
 
 laid-conflicts : (c : tie.After-put-conflicts) → let s = sheet (by-conflicts c) in Laid (rowPiece s conflictsPart (conflictsOf s) ∷ changes s) (c .put-conflicts .last .1 .1 .0)
-laid-conflicts c =
-    let s = sheet (by-conflicts c) in
-    lay (rowPiece s conflictsPart (conflictsOf s)) (row-fits s (past (by-conflicts c)) conflictsPart (conflictsOf s) (omega arith)) (laid-gains (c .before .before .before)) (c .put-conflicts .ensures)
+laid-conflicts c = lay _ (row-fits _ (past (by-conflicts c)) conflictsPart _ (omega arith)) (laid-gains (c .before .before .before)) (c .put-conflicts .ensures)
 
 laid-yielders : (c : tie.After-put-yielders) → let s = sheet (by-yielders c) in Laid (conflicts s) (c .put-yielders .last .1 .1 .0)
-laid-yielders c =
-    let s = sheet (by-yielders c) in
-    lay (rowPiece s yieldersPart (yieldersOf s)) (row-fits s (past (by-yielders c)) yieldersPart (yieldersOf s) (omega arith)) (laid-conflicts (c .before .before .before)) (c .put-yielders .ensures)
+laid-yielders c = lay _ (row-fits _ (past (by-yielders c)) yieldersPart _ (omega arith)) (laid-conflicts (c .before .before .before)) (c .put-yielders .ensures)
 
 laid-delays : (c : tie.After-put-delays) → let s = sheet (by-delays c) in Laid (delaysPiece s ∷ conflicts s) (c .put-delays .last .1 .1 .0)
-laid-delays c =
-    let s = sheet (by-delays c) in
-    lay (delaysPiece s) (record { within = omega arith; inside = omega arith }) (laid-yielders (c .before .before)) (c .put-delays .ensures)
+laid-delays c = lay _ (record { within = omega arith; inside = omega arith }) (laid-yielders (c .before .before)) (c .put-delays .ensures)
 
 laid-hits : (c : tie.After-put-hits) → let s = sheet (by-hits c) in Laid (classes s) (c .put-hits .last .1 .1 .0)
-laid-hits c =
-    let s = sheet (by-hits c) in
-    lay (hitsPiece s) (hits-fit s (past (by-hits c))) (laid-delays (c .before .before)) (c .put-hits .ensures)
+laid-hits c = lay _ (hits-fit _ (past (by-hits c))) (laid-delays (c .before .before)) (c .put-hits .ensures)
 
 insides-requires : tie.Need-insides-requires
 insides-requires c κs = search needs

@@ -34,19 +34,11 @@ abbrev μ-serial-below : Measures 1 serial-below-kinds.ps ℕ
 
 abbrev parallel-below-at : ℕ → In 1 parallel-below-kinds.ps
 parallel-below-at t =
-    and
-    1
-    parallel-below-kinds.ps
-    (is 1 parallel-below-kinds.ps μ-parallel-below t)
-    parallel-below.Pre
+    and 1 parallel-below-kinds.ps (is 1 parallel-below-kinds.ps μ-parallel-below t) parallel-below.Pre
 
 abbrev parallel-below-below : ℕ → In 1 parallel-below-kinds.ps
 parallel-below-below t =
-    and
-    1
-    parallel-below-kinds.ps
-    (falls 1 parallel-below-kinds.ps _<_ μ-parallel-below t)
-    parallel-below.Pre
+    and 1 parallel-below-kinds.ps (falls 1 parallel-below-kinds.ps _<_ μ-parallel-below t) parallel-below.Pre
 
 abbrev serial-below-at : ℕ → In 1 serial-below-kinds.ps
 serial-below-at t =
@@ -54,11 +46,7 @@ serial-below-at t =
 
 abbrev serial-below-below : ℕ → In 1 serial-below-kinds.ps
 serial-below-below t =
-    and
-    1
-    serial-below-kinds.ps
-    (falls 1 serial-below-kinds.ps _<_ μ-serial-below t)
-    serial-below.Pre
+    and 1 serial-below-kinds.ps (falls 1 serial-below-kinds.ps _<_ μ-serial-below t) serial-below.Pre
 
 -- what the two know of the functions that they call
 abbrev parallel-calls : ℕ → parallel-below-lts.Claims
@@ -188,28 +176,14 @@ serial-below-returns-2 t c =
 
 pub +parallel-below+serial-below-spec : {M : Type 1} → statement M
 +parallel-below+serial-below-spec =
-    close μ-parallel-below μ-serial-below (λ t. parallel-below-lts.spec (parallel-calls t) (parallel-below-at t) parallel-below.Post Inv-loop μ-loop
-    (parallel-below-mode-count-requires t)
-    (parallel-below-add-c t)
-    (parallel-below-loop-holds t)
-    (parallel-below-is-child-requires t)
-    (parallel-below-is-serial-requires t)
-    (parallel-below-single-requires t)
-    (parallel-below-serial-below-requires t)
-    (parallel-below-single-requires-2 t)
-    (parallel-below-parallel-below-requires t)
-    (parallel-below-add-c-2 t)
-    (parallel-below-loop-less t)
-    (parallel-below-loop-again t)
-    (parallel-below-returns t))
-    λ t. serial-below-lts.spec (serial-calls t)
-    (serial-below-at t)
-    serial-below.Post
-    (serial-below-kept-child-requires t)
-    (serial-below-is-serial-requires t)
-    (serial-below-single-requires t)
-    (serial-below-serial-below-requires t)
-    (serial-below-single-requires-2 t)
-    (serial-below-parallel-below-requires t)
-    (serial-below-returns t)
-    (serial-below-returns-2 t)
+    close μ-parallel-below μ-serial-below
+    (λ t. parallel-below-lts.spec (parallel-calls t) (parallel-below-at t) parallel-below.Post Inv-loop μ-loop
+    (parallel-below-mode-count-requires t) (parallel-below-add-c t) (parallel-below-loop-holds t)
+    (parallel-below-is-child-requires t) (parallel-below-is-serial-requires t) (parallel-below-single-requires t)
+    (parallel-below-serial-below-requires t) (parallel-below-single-requires-2 t)
+    (parallel-below-parallel-below-requires t) (parallel-below-add-c-2 t) (parallel-below-loop-less t)
+    (parallel-below-loop-again t) (parallel-below-returns t))
+    λ t. serial-below-lts.spec (serial-calls t) (serial-below-at t) serial-below.Post
+    (serial-below-kept-child-requires t) (serial-below-is-serial-requires t) (serial-below-single-requires t)
+    (serial-below-serial-below-requires t) (serial-below-single-requires-2 t)
+    (serial-below-parallel-below-requires t) (serial-below-returns t) (serial-below-returns-2 t)

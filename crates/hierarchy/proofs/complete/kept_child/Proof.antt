@@ -43,11 +43,10 @@ loop-less c = omega arith
 loop-again : tie.Need-loop-again Inv-loop μ-loop
 loop-again c =
     let l = c .before .before .before .loop in
-    let a = c .before .before .before .before .before .before .before .args in
     let sd = sound _ (c .before .before .before .before .before .before .before .pre .0) in
     let e = c .before .child-in .ensures in (
-      ⊎-elim (λ w. w .1 ∙ kept-child-hit _ sd (a .x) (a .m) (l .c) _ e (w .0 .taken))
-          (λ w. w .1 ∙ kept-child-miss _ sd (a .x) (a .m) (l .c) (l .r) _ e (w .0 .left) (l .inv .0))
+      ⊎-elim (λ w. w .1 ∙ kept-child-hit _ sd _ _ _ _ e (w .0 .taken))
+          (λ w. w .1 ∙ kept-child-miss _ sd _ _ _ _ _ e (w .0 .left) (l .inv .0))
           (c .if1 .came),
       omega arith,
       omega arith,

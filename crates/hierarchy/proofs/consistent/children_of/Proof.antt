@@ -45,20 +45,17 @@ loop-less c = search needs
 loop-again : tie.Need-loop-again Inv-loop μ-loop
 loop-again c =
     let l = c .before .before .before .loop in
-    let a = c .before .before .before .before .before .before .args in
-    let p = isChild (a .sheet .now) (a .m) in
     let e = c .before .is-child .ensures in (
       omega arith,
-      ⊎-elim (λ w. setOf-added p (l .c) (l .inv .1) (w .1 .ensures) e (w .0 .taken) (w .2))
-          (λ w. setOf-passed p (l .c) (l .inv .1) e (w .0 .left) (w .1)) (c .if1 .came),
+      ⊎-elim (λ w. setOf-added _ _ (l .inv .1) (w .1 .ensures) e (w .0 .taken) (w .2))
+          (λ w. setOf-passed _ _ (l .inv .1) e (w .0 .left) (w .1)) (c .if1 .came),
     )
 
 returns : tie.Need-returns Inv-loop μ-loop
 unfolding children
 returns c =
     let l = c .before .loop in
-    let a = c .before .before .before .before .args in
-    setOf-width (isChild (a .sheet .now) (a .m)) (l .inv .1) (le-antisymm (l .inv .0) (c .loop-test .left) ∙ c .before .before .mode-count .ensures)
+    setOf-width _ (l .inv .1) (le-antisymm (l .inv .0) (c .loop-test .left) ∙ c .before .before .mode-count .ensures)
 
 pub children-of-spec : {M : Type 1} → statement M
 children-of-spec =

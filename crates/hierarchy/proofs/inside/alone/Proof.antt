@@ -6,7 +6,7 @@ use native.Mathlib.Omega.{arith}
 use borrow.Author.Needs.{needs}
 use lib.ListN.{length, getD, length-set}
 use Rattle.sets.specs.Sets.{single}
-use Rattle.hierarchy.proofs.InsideLaws.{alone-turn}
+use Rattle.sets.proofs.Loops.{row-turn}
 use Rattle.hierarchy.proofs.inside.alone.Statement.{statement}
 use Rattle.hierarchy.proofs.inside.alone.Tie as tie
 
@@ -37,7 +37,7 @@ loop-less c = search needs
 loop-again : tie.Need-loop-again Inv-loop μ-loop
 loop-again c =
     let l = c .before .before .loop in
-    (omega arith, simp length-set (l .inv .1), alone-turn (l .r) (l .m) _ (omega arith) (c .single .ensures) (l .inv .2))
+    (omega arith, simp length-set (l .inv .1), row-turn single (l .r) (l .m) (omega arith) (l .inv .2) (c .single .ensures))
 
 returns : tie.Need-returns Inv-loop μ-loop
 returns c = let l = c .before .loop in λ m h. l .inv .2 m (omega arith)

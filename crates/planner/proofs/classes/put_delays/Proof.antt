@@ -1,12 +1,12 @@
 -- `planner::classes::put_delays` meets its contract. Assumes nothing.
-use mathlib.Core.Path.{_≡_, _∙_}
+use mathlib.Core.Path.{_≡_}
 use Prim.Native.Nat.{_-_, _≤_}
 use native.Mathlib.Omega.{arith}
 use borrow.Author.Needs.{needs}
 use Rattle.rows.specs.Over.{over}
 use Rattle.meaning.specs.Lists.{rowFrom}
 use Rattle.reaction.specs.Plan.{delaysPart, timerDelay}
-use Rattle.planner.proofs.PartLaws.{part-none, part-turn, part-width}
+use Rattle.planner.proofs.PartLaws.{part-none, part-turn, part-done}
 use Rattle.planner.proofs.classes.put_delays.Statement.{statement}
 use Rattle.planner.proofs.classes.put_delays.Tie as tie
 
@@ -44,9 +44,7 @@ loop-again c =
     (omega arith, part-turn (b .args .plan .now) delaysPart (timerDelay (b .args .sheet .now)) (l .t) (omega arith) (l .inv .1) (c .timer-delay .ensures))
 
 returns : tie.Need-returns Inv-loop μ-loop
-returns c =
-    let b = c .before .before .before in
-    c .before .loop .inv .1 ∙ part-width (b .args .plan .now) delaysPart (timerDelay (b .args .sheet .now)) (omega arith)
+returns c = part-done _ _ _ _ (c .before .loop .inv .1) (omega arith)
 
 pub put-delays-spec : {M : Type 1} → statement M
 put-delays-spec =

@@ -20,7 +20,7 @@ abbrev rival : List ℕ → ℕ → ℕ → Bool
 rival s t u = not (eqb t u) && conflict s t u
 
 abbrev Inv-loop : tie.InvT-loop
-Inv-loop sheet inside meets t count r₀ u₀ r u = (u ≤ tOf sheet) × (r ≡ setOf u (rival sheet t))
+Inv-loop sheet inside meets t count r₀ u₀ r u = (u ≤ tOf sheet) × (tOf sheet ≤ 64) × (r ≡ setOf u (rival sheet t))
 
 abbrev μ-loop : tie.MeasureT-loop
 μ-loop sheet inside meets t count r₀ u₀ r u = tOf sheet - u
@@ -29,7 +29,7 @@ transition-count-requires : tie.Need-transition-count-requires Inv-loop μ-loop
 transition-count-requires c κs = head-read (c .before .args .sheet .now) (c .before .pre .0)
 
 loop-holds : tie.Need-loop-holds Inv-loop μ-loop
-loop-holds c = (omega arith, setOf-none _)
+loop-holds c = (omega arith, t-le _ (sound _ (c .before .before .pre .0)), setOf-none _)
 
 is-conflict-requires : tie.Need-is-conflict-requires Inv-loop μ-loop
 is-conflict-requires c κs =
@@ -37,34 +37,27 @@ is-conflict-requires c κs =
     (b .pre .0, b .pre .1, b .pre .2, b .pre .3, omega arith)
 
 single-requires : tie.Need-single-requires Inv-loop μ-loop
-single-requires c κs =
-    let b = c .before .before .before .before .before .before in
-    omega (arith, t-le (b .args .sheet .now) (sound (b .args .sheet .now) (b .pre .0)))
+single-requires c κs = omega arith
 
 add-u : tie.Need-add-u Inv-loop μ-loop
-add-u c =
-    let b = c .before .before .before .before .before .before in
-    omega (arith, t-le (b .args .sheet .now) (sound (b .args .sheet .now) (b .pre .0)))
+add-u c = omega arith
 
 loop-less : tie.Need-loop-less Inv-loop μ-loop
 loop-less c = omega arith
 
 loop-again : tie.Need-loop-again Inv-loop μ-loop
 loop-again c =
-    let b = c .before .before .before .before .before .before in
     let l = c .before .before .before .loop in
-    let e = c .before .is-conflict .ensures in
-    let p = rival (b .args .sheet .now) (b .args .t) in (
+    let e = c .before .is-conflict .ensures in (
       omega arith,
-      ⊎-elim (λ w. setOf-added p (l .u) (l .inv .1) (w .1 .ensures) e (w .0 .taken) (w .2))
-          (λ w. setOf-passed p (l .u) (l .inv .1) e (w .0 .left) (w .1)) (c .if1 .came),
+      l .inv .1,
+      ⊎-elim (λ w. setOf-added _ _ (l .inv .2) (w .1 .ensures) e (w .0 .taken) (w .2))
+          (λ w. setOf-passed _ _ (l .inv .2) e (w .0 .left) (w .1)) (c .if1 .came),
     )
 
 returns : tie.Need-returns Inv-loop μ-loop
 unfolding conflictsOf
-returns c =
-    let b = c .before .before .before .before in
-    setOf-width (rival (b .args .sheet .now) (b .args .t)) (c .before .loop .inv .1) (omega arith)
+returns c = setOf-width _ (c .before .loop .inv .2) (omega arith)
 
 pub conflicts-of-spec : {M : Type 1} → statement M
 conflicts-of-spec =

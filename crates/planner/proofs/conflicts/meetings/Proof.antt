@@ -16,7 +16,7 @@ use Rattle.planner.proofs.conflicts.meetings.Statement.{statement}
 use Rattle.planner.proofs.conflicts.meetings.Tie as tie
 
 abbrev Inv-loop : tie.InvT-loop
-Inv-loop sheet count r₀ t₀ r t = (t ≤ tOf sheet) × (r ≡ over r₀ 0 (rowFrom 0 t (meeting sheet)))
+Inv-loop sheet count r₀ t₀ r t = (t ≤ tOf sheet) × (tOf sheet ≤ 64) × (r ≡ over r₀ 0 (rowFrom 0 t (meeting sheet)))
 
 abbrev μ-loop : tie.MeasureT-loop
 μ-loop sheet count r₀ t₀ r t = tOf sheet - t
@@ -25,7 +25,7 @@ transition-count-requires : tie.Need-transition-count-requires Inv-loop μ-loop
 transition-count-requires c κs = head-read (c .before .args .sheet .now) (c .before .pre)
 
 loop-holds : tie.Need-loop-holds Inv-loop μ-loop
-loop-holds c = (omega arith, part-none _ 0 _)
+loop-holds c = (omega arith, t-le _ (sound _ (c .before .before .pre)), part-none _ 0 _)
 
 meeting-requires : tie.Need-meeting-requires Inv-loop μ-loop
 meeting-requires c κs =
@@ -36,19 +36,13 @@ meeting-requires c κs =
     (tree-read s (b .pre), record-read s (b .pre) (c .before .loop .t) l, e .source-n, e .target-n)
 
 mul-r : tie.Need-mul-r Inv-loop μ-loop
-mul-r c =
-    let b = c .before .before .before .before .before in
-    omega (arith, t-le (b .args .sheet .now) (sound (b .args .sheet .now) (b .pre)))
+mul-r c = omega arith
 
 array-write-r : tie.Need-array-write-r Inv-loop μ-loop
-array-write-r c =
-    let b = c .before .before .before .before .before in
-    omega (arith, t-le (b .args .sheet .now) (sound (b .args .sheet .now) (b .pre)))
+array-write-r c = omega arith
 
 add-t : tie.Need-add-t Inv-loop μ-loop
-add-t c =
-    let b = c .before .before .before .before .before in
-    omega (arith, t-le (b .args .sheet .now) (sound (b .args .sheet .now) (b .pre)))
+add-t c = omega arith
 
 loop-less : tie.Need-loop-less Inv-loop μ-loop
 loop-less c = search needs
@@ -58,13 +52,13 @@ loop-again c =
     let b = c .before .before .before .before .before in
     let s = b .args .sheet .now in
     let l = c .before .before .loop in
-    (omega arith, front-turn _ (meeting s) (l .t) (omega (arith, t-le s (sound s (b .pre)))) (l .inv .1) (c .meeting .ensures .0))
+    (omega arith, l .inv .1, front-turn _ (meeting s) (l .t) (omega arith) (l .inv .2) (c .meeting .ensures .0))
 
 returns : tie.Need-returns Inv-loop μ-loop
 returns c =
     let b = c .before .before .before .before in
     let l = c .before .loop in
-    meetings-done (b .args .sheet .now) (b .pre) _ (l .r) (l .t) (omega arith) (omega arith) (l .inv .1)
+    meetings-done (b .args .sheet .now) (b .pre) _ (l .r) (l .t) (omega arith) (omega arith) (l .inv .2)
 
 pub meetings-spec : {M : Type 1} → statement M
 meetings-spec =

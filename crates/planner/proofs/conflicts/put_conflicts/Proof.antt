@@ -1,6 +1,6 @@
 -- `planner::conflicts::put_conflicts` meets its contract. Assumes nothing.
-use mathlib.Core.Path.{_≡_, _∙_}
-use Prim.Native.Nat.{_-_, _≤_, _<_}
+use mathlib.Core.Path.{_≡_}
+use Prim.Native.Nat.{_-_, _≤_}
 use native.Mathlib.Omega.{arith}
 use borrow.Author.Needs.{needs}
 use Rattle.rows.specs.Over.{over}
@@ -9,12 +9,12 @@ use Rattle.meaning.specs.Sheet.{tOf}
 use Rattle.meaning.proofs.SheetLaws.{sound, t-le}
 use Rattle.reaction.specs.Plan.{conflictsPart, conflictsOf}
 use Rattle.sheet.proofs.Past.{head-read}
-use Rattle.planner.proofs.PartLaws.{part-none, part-turn, part-width}
+use Rattle.planner.proofs.PartLaws.{part-none, part-turn, part-done}
 use Rattle.planner.proofs.conflicts.put_conflicts.Statement.{statement}
 use Rattle.planner.proofs.conflicts.put_conflicts.Tie as tie
 
 abbrev Inv-loop : tie.InvT-loop
-Inv-loop sheet inside plan₀ count meets t₀ plan t = (t ≤ tOf sheet) × (plan ≡ over plan₀ conflictsPart (rowFrom 0 t (conflictsOf sheet)))
+Inv-loop sheet inside plan₀ count meets t₀ plan t = (t ≤ tOf sheet) × (tOf sheet ≤ 64) × (plan ≡ over plan₀ conflictsPart (rowFrom 0 t (conflictsOf sheet)))
 
 abbrev μ-loop : tie.MeasureT-loop
 μ-loop sheet inside plan₀ count meets t₀ plan t = tOf sheet - t
@@ -26,12 +26,7 @@ meetings-requires : tie.Need-meetings-requires Inv-loop μ-loop
 meetings-requires c κs = c .before .before .pre .0
 
 loop-holds : tie.Need-loop-holds Inv-loop μ-loop
-loop-holds c = (omega arith, part-none (c .before .before .before .args .plan .now) conflictsPart _)
-
-small : (c : tie.In-loop Inv-loop μ-loop) → c .before .loop .t < 64
-small c =
-    let b = c .before .before .before .before .before in
-    omega (arith, t-le (b .args .sheet .now) (sound (b .args .sheet .now) (b .pre .0)))
+loop-holds c = (omega arith, t-le _ (sound _ (c .before .before .before .pre .0)), part-none (c .before .before .before .args .plan .now) conflictsPart _)
 
 conflicts-of-requires : tie.Need-conflicts-of-requires Inv-loop μ-loop
 conflicts-of-requires c κs =
@@ -39,16 +34,16 @@ conflicts-of-requires c κs =
     (b .pre .0, b .pre .2, c .before .before .before .meetings .ensures, omega arith)
 
 add-plan : tie.Need-add-plan Inv-loop μ-loop
-add-plan c = omega (arith, small (c .before .before))
+add-plan c = omega arith
 
 mul-plan : tie.Need-mul-plan Inv-loop μ-loop
-mul-plan c = omega (arith, small (c .before .before))
+mul-plan c = omega arith
 
 element-write-plan : tie.Need-element-write-plan Inv-loop μ-loop
-element-write-plan c = omega (arith, small (c .before .before))
+element-write-plan c = omega arith
 
 add-t : tie.Need-add-t Inv-loop μ-loop
-add-t c = omega (arith, small (c .before .before))
+add-t c = omega arith
 
 loop-less : tie.Need-loop-less Inv-loop μ-loop
 loop-less c = search needs
@@ -57,12 +52,11 @@ loop-again : tie.Need-loop-again Inv-loop μ-loop
 loop-again c =
     let b = c .before .before .before .before .before .before .before in
     let l = c .before .before .before .loop in
-    (omega arith, part-turn (b .args .plan .now) conflictsPart (conflictsOf (b .args .sheet .now)) (l .t) (omega (arith, small (c .before .before))) (l .inv .1) (c .conflicts-of .ensures))
+    let f = conflictsOf (b .args .sheet .now) in
+    (omega arith, l .inv .1, part-turn (b .args .plan .now) conflictsPart f (l .t) (omega arith) (l .inv .2) (c .conflicts-of .ensures))
 
 returns : tie.Need-returns Inv-loop μ-loop
-returns c =
-    let b = c .before .before .before .before .before in
-    c .before .loop .inv .1 ∙ part-width (b .args .plan .now) conflictsPart (conflictsOf (b .args .sheet .now)) (omega arith)
+returns c = part-done _ _ _ _ (c .before .loop .inv .2) (omega arith)
 
 pub put-conflicts-spec : {M : Type 1} → statement M
 put-conflicts-spec =

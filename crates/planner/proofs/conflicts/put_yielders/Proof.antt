@@ -1,5 +1,5 @@
 -- `planner::conflicts::put_yielders` meets its contract. Assumes nothing.
-use mathlib.Core.Path.{_≡_, _∙_}
+use mathlib.Core.Path.{_≡_}
 use Prim.Native.Nat.{_-_, _≤_, _<_}
 use native.Mathlib.Omega.{arith}
 use borrow.Author.Needs.{needs}
@@ -9,13 +9,13 @@ use Rattle.meaning.specs.Sheet.{tOf}
 use Rattle.meaning.proofs.SheetLaws.{sound, t-le, n-le, source-lt}
 use Rattle.reaction.specs.Plan.{yieldersPart, yieldersOf}
 use Rattle.sheet.proofs.Past.{head-read, record-read}
-use Rattle.planner.proofs.PartLaws.{part-none, part-turn, part-width}
+use Rattle.planner.proofs.PartLaws.{part-none, part-turn, part-done}
 use Rattle.planner.proofs.ConflictLaws.{yielders-from, yielders-conflicts, yielders-word}
 use Rattle.planner.proofs.conflicts.put_yielders.Statement.{statement}
 use Rattle.planner.proofs.conflicts.put_yielders.Tie as tie
 
 abbrev Inv-loop : tie.InvT-loop
-Inv-loop sheet inside plan₀ count t₀ plan t = (t ≤ tOf sheet) × (plan ≡ over plan₀ yieldersPart (rowFrom 0 t (yieldersOf sheet)))
+Inv-loop sheet inside plan₀ count t₀ plan t = (t ≤ tOf sheet) × (tOf sheet ≤ 64) × (plan ≡ over plan₀ yieldersPart (rowFrom 0 t (yieldersOf sheet)))
 
 abbrev μ-loop : tie.MeasureT-loop
 μ-loop sheet inside plan₀ count t₀ plan t = tOf sheet - t
@@ -24,17 +24,12 @@ transition-count-requires : tie.Need-transition-count-requires Inv-loop μ-loop
 transition-count-requires c κs = head-read (c .before .args .sheet .now) (c .before .pre .0)
 
 loop-holds : tie.Need-loop-holds Inv-loop μ-loop
-loop-holds c = (omega arith, part-none (c .before .before .args .plan .now) yieldersPart _)
+loop-holds c = (omega arith, t-le _ (sound _ (c .before .before .pre .0)), part-none (c .before .before .args .plan .now) yieldersPart _)
 
 source-requires : tie.Need-source-requires Inv-loop μ-loop
 source-requires c κs =
     let b = c .before .before .before .before in
     record-read (b .args .sheet .now) (b .pre .0) (c .before .loop .t) (omega arith)
-
-small : (c : tie.In-loop Inv-loop μ-loop) → c .before .loop .t < 64
-small c =
-    let b = c .before .before .before .before in
-    omega (arith, t-le (b .args .sheet .now) (sound (b .args .sheet .now) (b .pre .0)))
 
 mode : (c : tie.After-source Inv-loop μ-loop) → c .source .result < 32
 mode c =
@@ -59,28 +54,28 @@ from-set-requires : tie.Need-from-set-requires Inv-loop μ-loop
 from-set-requires c κs =
     let b = c .before .before .before .before .before .before .before .before .before in
     let l = c .before .before .before .before .before .before .loop in
-    yielders-from (b .args .sheet .now) (b .args .plan .now) (l .t) (l .inv .1) (omega arith) (small (c .before .before .before .before .before)) (b .pre .3)
+    yielders-from (b .args .sheet .now) (b .args .plan .now) (l .t) (l .inv .2) (omega arith) (omega arith) (b .pre .3)
 
 add-plan : tie.Need-add-plan Inv-loop μ-loop
-add-plan c = omega (arith, small (c .before .before .before .before .before .before))
+add-plan c = omega arith
 
 mul-plan : tie.Need-mul-plan Inv-loop μ-loop
-mul-plan c = omega (arith, small (c .before .before .before .before .before .before))
+mul-plan c = omega arith
 
 element-copy-out-plan : tie.Need-element-copy-out-plan Inv-loop μ-loop
-element-copy-out-plan c = omega (arith, small (c .before .before .before .before .before .before))
+element-copy-out-plan c = omega arith
 
 add-plan-2 : tie.Need-add-plan-2 Inv-loop μ-loop
-add-plan-2 c = omega (arith, small (c .before .before .before .before .before .before .before))
+add-plan-2 c = omega arith
 
 mul-plan-2 : tie.Need-mul-plan-2 Inv-loop μ-loop
-mul-plan-2 c = omega (arith, small (c .before .before .before .before .before .before .before))
+mul-plan-2 c = omega arith
 
 element-write-plan : tie.Need-element-write-plan Inv-loop μ-loop
-element-write-plan c = omega (arith, small (c .before .before .before .before .before .before .before))
+element-write-plan c = omega arith
 
 add-t : tie.Need-add-t Inv-loop μ-loop
-add-t c = omega (arith, small (c .before .before .before .before .before .before .before))
+add-t c = omega arith
 
 loop-less : tie.Need-loop-less Inv-loop μ-loop
 loop-less c = omega arith
@@ -92,15 +87,13 @@ loop-again c =
     let p = b .args .plan .now in
     let l = c .before .before .before .before .before .before .before .before .loop in
     let k : l .t < tOf s = omega arith in
-    let row = yielders-conflicts s p (l .t) (l .inv .1) (omega arith) (small (c .before .before .before .before .before .before .before)) (b .pre .4) k in
+    let row = yielders-conflicts s p (l .t) (l .inv .2) (omega arith) (omega arith) (b .pre .4) k in
     let word =
     yielders-word s (b .pre .0) (b .args .inside .now) (b .pre .2) (l .t) k (c .before .before .before .before .before .before .source .ensures) (c .before .before .before .before .single .ensures) (c .before .before .before .minus .ensures) (c .before .from-set .ensures) row in
-    (omega arith, part-turn p yieldersPart (yieldersOf s) (l .t) (omega (arith, small (c .before .before .before .before .before .before .before))) (l .inv .1) word)
+    (omega arith, l .inv .1, part-turn p yieldersPart (yieldersOf s) (l .t) (omega arith) (l .inv .2) word)
 
 returns : tie.Need-returns Inv-loop μ-loop
-returns c =
-    let b = c .before .before .before .before in
-    c .before .loop .inv .1 ∙ part-width (b .args .plan .now) yieldersPart (yieldersOf (b .args .sheet .now)) (omega arith)
+returns c = part-done _ _ _ _ (c .before .loop .inv .2) (omega arith)
 
 pub put-yielders-spec : {M : Type 1} → statement M
 put-yielders-spec =

@@ -1,6 +1,6 @@
 -- `planner::ends::put_ends` meets its contract: both parts are laid for the transitions passed. Assumes nothing.
 use mathlib.Core.Path.{_≡_, _∙_}
-use Prim.Native.Nat.{_-_, _≤_, _<_}
+use Prim.Native.Nat.{_-_, _≤_}
 use native.Mathlib.Omega.{arith}
 use borrow.Author.Needs.{needs}
 use Rattle.rows.specs.Over.{over}
@@ -10,13 +10,13 @@ use Rattle.meaning.specs.Hierarchy.{exits, enters}
 use Rattle.meaning.proofs.SheetLaws.{sound, t-le}
 use Rattle.sheet.proofs.Past.{head-read}
 use Rattle.reaction.specs.Plan.{exitsPart, entersPart}
-use Rattle.planner.proofs.PartLaws.{part-none, parts-turn, parts-width}
+use Rattle.planner.proofs.PartLaws.{part-none, parts-turn, parts-done}
 use Rattle.planner.proofs.ends.put_ends.Statement.{statement}
 use Rattle.planner.proofs.ends.put_ends.Tie as tie
 
 abbrev Inv-loop : tie.InvT-loop
 Inv-loop sheet inside plan₀ count t₀ plan t =
-    (t ≤ tOf sheet) × (plan ≡ over (over plan₀ exitsPart (rowFrom 0 t (exits sheet))) entersPart (rowFrom 0 t (enters sheet)))
+    (t ≤ tOf sheet) × (tOf sheet ≤ 64) × (plan ≡ over (over plan₀ exitsPart (rowFrom 0 t (exits sheet))) entersPart (rowFrom 0 t (enters sheet)))
 
 abbrev μ-loop : tie.MeasureT-loop
 μ-loop sheet inside plan₀ count t₀ plan t = tOf sheet - t
@@ -25,12 +25,8 @@ transition-count-requires : tie.Need-transition-count-requires Inv-loop μ-loop
 transition-count-requires c κs = head-read (c .before .args .sheet .now) (c .before .pre .0)
 
 loop-holds : tie.Need-loop-holds Inv-loop μ-loop
-loop-holds c = (omega arith, part-none (c .before .before .args .plan .now) exitsPart _ ∙ part-none _ entersPart _)
-
-small : (c : tie.In-loop Inv-loop μ-loop) → c .before .loop .t < 64
-small c =
-    let b = c .before .before .before .before in
-    omega (arith, t-le (b .args .sheet .now) (sound (b .args .sheet .now) (b .pre .0)))
+loop-holds c =
+    (omega arith, t-le _ (sound _ (c .before .before .pre .0)), part-none (c .before .before .args .plan .now) exitsPart _ ∙ part-none _ entersPart _)
 
 exited-by-requires : tie.Need-exited-by-requires Inv-loop μ-loop
 exited-by-requires c κs =
@@ -41,13 +37,13 @@ cast-plan : tie.Need-cast-plan Inv-loop μ-loop
 cast-plan c = search needs
 
 add-plan : tie.Need-add-plan Inv-loop μ-loop
-add-plan c = omega (arith, small (c .before))
+add-plan c = omega arith
 
 mul-plan : tie.Need-mul-plan Inv-loop μ-loop
-mul-plan c = omega (arith, small (c .before))
+mul-plan c = omega arith
 
 element-write-plan : tie.Need-element-write-plan Inv-loop μ-loop
-element-write-plan c = omega (arith, small (c .before))
+element-write-plan c = omega arith
 
 entered-by-requires : tie.Need-entered-by-requires Inv-loop μ-loop
 entered-by-requires c κs =
@@ -58,16 +54,16 @@ cast-plan-2 : tie.Need-cast-plan-2 Inv-loop μ-loop
 cast-plan-2 c = search needs
 
 add-plan-2 : tie.Need-add-plan-2 Inv-loop μ-loop
-add-plan-2 c = omega (arith, small (c .before .before))
+add-plan-2 c = omega arith
 
 mul-plan-2 : tie.Need-mul-plan-2 Inv-loop μ-loop
-mul-plan-2 c = omega (arith, small (c .before .before))
+mul-plan-2 c = omega arith
 
 element-write-plan-2 : tie.Need-element-write-plan-2 Inv-loop μ-loop
-element-write-plan-2 c = omega (arith, small (c .before .before))
+element-write-plan-2 c = omega arith
 
 add-t : tie.Need-add-t Inv-loop μ-loop
-add-t c = omega (arith, small (c .before .before))
+add-t c = omega arith
 
 loop-less : tie.Need-loop-less Inv-loop μ-loop
 loop-less c = omega arith
@@ -77,14 +73,11 @@ loop-again c =
     let b = c .before .before .before .before .before .before in
     let l = c .before .before .before .loop in
     let s = b .args .sheet .now in
-    let k = small (c .before .before) in
-    (omega arith, parts-turn (b .args .plan .now) exitsPart entersPart (exits s) (enters s) (l .t) (omega arith) (omega arith) (l .inv .1) (c .before .exited-by .ensures) (c .entered-by .ensures))
+    let turn = parts-turn (b .args .plan .now) exitsPart entersPart (exits s) (enters s) (l .t) (omega arith) (omega arith) (l .inv .2) in
+    (omega arith, l .inv .1, turn (c .before .exited-by .ensures) (c .entered-by .ensures))
 
 returns : tie.Need-returns Inv-loop μ-loop
-returns c =
-    let b = c .before .before .before .before in
-    let s = b .args .sheet .now in
-    c .before .loop .inv .1 ∙ parts-width (b .args .plan .now) exitsPart entersPart (exits s) (enters s) (omega arith)
+returns c = parts-done _ _ _ _ _ _ (c .before .loop .inv .2) (omega arith)
 
 pub put-ends-spec : {M : Type 1} → statement M
 put-ends-spec =

@@ -51,15 +51,12 @@ loop-less c = known (c .before .before .before .before) (c .without-lowest .ensu
 loop-again : tie.Need-loop-again Inv-loop μ-loop
 loop-again c =
     let u = known (c .before .before .before .before) (c .without-lowest .ensures) in
-    let b = c .before .before .before .before .before .before .before .before .before in
     let l = c .before .before .before .before .before .before .loop in
-    let e = c .before .before .is-hit .ensures in
-    let p = hitBy (b .args .sheet .now) (c .before .before .before .before .before .before .before .facts .result) in
-    let all = b .args .certain in (
+    let e = c .before .before .is-hit .ensures in (
       u .fits,
-      subset-turn all u (l .inv .1),
-      ⊎-elim (λ w. those-added all p u (l .inv .1) (l .inv .2) (w .1 .ensures) e (w .0 .taken) (w .2))
-          (λ w. those-passed all p u (l .inv .2) e (w .0 .left) (w .1))
+      subset-turn _ u (l .inv .1),
+      ⊎-elim (λ w. those-added _ _ u (l .inv .1) (l .inv .2) (w .1 .ensures) e (w .0 .taken) (w .2))
+          (λ w. those-passed _ _ u (l .inv .2) e (w .0 .left) (w .1))
           (c .before .if1 .came),
     )
 

@@ -1,6 +1,6 @@
 -- `planner::hits::put_hits` meets its contract. Assumes nothing.
-use mathlib.Core.Path.{_≡_, _∙_}
-use Prim.Native.Nat.{_-_, _^_, _≤_, _<_}
+use mathlib.Core.Path.{_≡_}
+use Prim.Native.Nat.{_-_, _^_, _≤_}
 use native.Mathlib.Omega.{arith}
 use borrow.Author.Needs.{needs}
 use Rattle.rows.specs.Over.{over}
@@ -9,13 +9,14 @@ use Rattle.meaning.specs.Sheet.{kOf}
 use Rattle.meaning.proofs.SheetLaws.{sound, k-le}
 use Rattle.reaction.specs.Plan.{hitsPart, hitsOf}
 use Rattle.sheet.proofs.Past.{head-read}
-use Rattle.planner.proofs.PartLaws.{part-none, part-turn, part-width}
+use Rattle.planner.proofs.PartLaws.{part-none, part-turn, part-done}
 use Rattle.planner.proofs.HitLaws.{inputs-le, inputs-count}
 use Rattle.planner.proofs.hits.put_hits.Statement.{statement}
 use Rattle.planner.proofs.hits.put_hits.Tie as tie
 
 abbrev Inv-loop : tie.InvT-loop
-Inv-loop sheet certain plan₀ count i₀ plan i = (i ≤ 2 ^ kOf sheet) × (count ≡ 2 ^ kOf sheet) × (plan ≡ over plan₀ hitsPart (rowFrom 0 i (hitsOf sheet)))
+Inv-loop sheet certain plan₀ count i₀ plan i =
+    (i ≤ 2 ^ kOf sheet) × (2 ^ kOf sheet ≤ 64) × (count ≡ 2 ^ kOf sheet) × (plan ≡ over plan₀ hitsPart (rowFrom 0 i (hitsOf sheet)))
 
 abbrev μ-loop : tie.MeasureT-loop
 μ-loop sheet certain plan₀ count i₀ plan i = 2 ^ kOf sheet - i
@@ -31,15 +32,7 @@ shl-count c =
 loop-holds : tie.Need-loop-holds Inv-loop μ-loop
 loop-holds c =
     let b = c .before .before in
-    (omega arith, inputs-count (b .args .sheet .now) (b .pre .0) (c .event-count .ensures), part-none (b .args .plan .now) hitsPart _)
-
-input : (c : tie.In-loop Inv-loop μ-loop) → c .before .loop .i < 2 ^ kOf (c .before .before .before .before .args .sheet .now)
-input c = omega arith
-
-small : (c : tie.In-loop Inv-loop μ-loop) → c .before .loop .i < 64
-small c =
-    let b = c .before .before .before .before in
-    omega (arith, input c, inputs-le (b .args .sheet .now) (b .pre .0))
+    (omega arith, inputs-le _ (b .pre .0), inputs-count (b .args .sheet .now) (b .pre .0) (c .event-count .ensures), part-none (b .args .plan .now) hitsPart _)
 
 hits-of-requires : tie.Need-hits-of-requires Inv-loop μ-loop
 hits-of-requires c κs = (c .before .before .before .before .pre .0, c .before .before .before .before .pre .2)
@@ -48,35 +41,33 @@ wide-requires : tie.Need-wide-requires Inv-loop μ-loop
 wide-requires c κs = search needs
 
 add-plan : tie.Need-add-plan Inv-loop μ-loop
-add-plan c = omega (arith, small (c .before .before), c .wide .ensures)
+add-plan c = omega (arith, c .wide .ensures)
 
 mul-plan : tie.Need-mul-plan Inv-loop μ-loop
-mul-plan c = omega (arith, small (c .before .before), c .wide .ensures)
+mul-plan c = omega (arith, c .wide .ensures)
 
 element-write-plan : tie.Need-element-write-plan Inv-loop μ-loop
-element-write-plan c = omega (arith, small (c .before .before), c .wide .ensures)
+element-write-plan c = omega (arith, c .wide .ensures)
 
 add-i : tie.Need-add-i Inv-loop μ-loop
-add-i c = omega (arith, small (c .before .before))
+add-i c = omega arith
 
 loop-less : tie.Need-loop-less Inv-loop μ-loop
-loop-less c = omega (arith, input (c .before .before))
+loop-less c = omega arith
 
 loop-again : tie.Need-loop-again Inv-loop μ-loop
 loop-again c =
     let b = c .before .before .before .before .before .before in
     let l = c .before .before .before .loop in
     let p = b .args .plan .now in (
-      omega (arith, input (c .before .before)),
+      omega arith,
       l .inv .1,
-      rw (c .wide .ensures) (part-turn p hitsPart (hitsOf (b .args .sheet .now)) (l .i) (omega (arith, small (c .before .before))) (l .inv .2) (c .before .hits-of .ensures)),
+      l .inv .2,
+      rw (c .wide .ensures) (part-turn p hitsPart (hitsOf (b .args .sheet .now)) (l .i) (omega arith) (l .inv .3) (c .before .hits-of .ensures)),
     )
 
 returns : tie.Need-returns Inv-loop μ-loop
-returns c =
-    let b = c .before .before .before .before in
-    let l = c .before .loop in
-    l .inv .2 ∙ part-width (b .args .plan .now) hitsPart (hitsOf (b .args .sheet .now)) (omega arith)
+returns c = part-done _ _ _ _ (c .before .loop .inv .3) (omega arith)
 
 pub put-hits-spec : {M : Type 1} → statement M
 put-hits-spec =

@@ -14,7 +14,7 @@ use Rattle.planner.proofs.sources.put_from.Statement.{statement}
 use Rattle.planner.proofs.sources.put_from.Tie as tie
 
 abbrev Inv-loop : tie.InvT-loop
-Inv-loop sheet plan₀ count t₀ plan t = (t ≤ tOf sheet) × (plan ≡ over plan₀ fromPart (rowFrom 0 32 (fromBelow sheet t)))
+Inv-loop sheet plan₀ count t₀ plan t = (t ≤ tOf sheet) × (tOf sheet ≤ 64) × (plan ≡ over plan₀ fromPart (rowFrom 0 32 (fromBelow sheet t)))
 
 abbrev μ-loop : tie.MeasureT-loop
 μ-loop sheet plan₀ count t₀ plan t = tOf sheet - t
@@ -23,7 +23,9 @@ transition-count-requires : tie.Need-transition-count-requires Inv-loop μ-loop
 transition-count-requires c κs = head-read (c .before .args .sheet .now) (c .before .pre .0)
 
 loop-holds : tie.Need-loop-holds Inv-loop μ-loop
-loop-holds c = (omega arith, from-start (c .before .before .args .sheet .now) (c .before .before .args .plan .now) (omega arith) (c .before .before .pre .2))
+loop-holds c =
+    let b = c .before .before in
+    (omega arith, t-le _ (sound _ (b .pre .0)), from-start (b .args .sheet .now) (b .args .plan .now) (omega arith) (b .pre .2))
 
 source-requires : tie.Need-source-requires Inv-loop μ-loop
 source-requires c κs =
@@ -39,9 +41,7 @@ mode c =
     omega (arith, n-le a h, source-lt a h (c .before .before .loop .t) (omega arith), c .source .ensures)
 
 single-requires : tie.Need-single-requires Inv-loop μ-loop
-single-requires c κs =
-    let b = c .before .before .before .before .before in
-    omega (arith, t-le (b .args .sheet .now) (sound (b .args .sheet .now) (b .pre .0)))
+single-requires c κs = omega arith
 
 add-plan : tie.Need-add-plan Inv-loop μ-loop
 add-plan c = omega (arith, mode (c .before))
@@ -67,7 +67,8 @@ loop-again c =
     let l = c .before .before .before .before .loop in
     let e = c .before .before .source .ensures in (
       omega arith,
-      rw (l .inv .1, c .before .single .ensures)
+      l .inv .1,
+      rw (l .inv .2, c .before .single .ensures)
           (from-turn (b .args .sheet .now) (b .args .plan .now) (l .t) (c .before .before .source .result) (omega arith) e (mode (c .before .before))),
     )
 
@@ -75,7 +76,7 @@ returns : tie.Need-returns Inv-loop μ-loop
 returns c =
     let b = c .before .before .before .before in
     let l = c .before .loop in
-    l .inv .1 ∙ from-done (b .args .sheet .now) (b .args .plan .now) (l .t) (omega arith)
+    l .inv .2 ∙ from-done (b .args .sheet .now) (b .args .plan .now) (l .t) (omega arith)
 
 pub put-from-spec : {M : Type 1} → statement M
 put-from-spec =

@@ -5,7 +5,8 @@ use Prim.Native.Nat.{ℕ, _-_, _≤_, _<_}
 use native.Mathlib.Omega.{arith}
 use lib.ListN.{length, getD, length-set}
 use Rattle.reaction.specs.Plan.{timerDelay}
-use Rattle.reaction.proofs.PlanLaws.{row-turn, row-done}
+use Rattle.sets.proofs.Loops.{row-turn}
+use Rattle.reaction.proofs.PlanLaws.{row-done}
 use Rattle.reaction.proofs.plan.timer_delays.Statement.{statement}
 use Rattle.reaction.proofs.plan.timer_delays.Tie as tie
 

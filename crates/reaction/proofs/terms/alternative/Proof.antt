@@ -65,9 +65,6 @@ module _ (c : tie.In-loop Inv-loop μ-loop) where
   room : at + 2 * j + 4 ≤ length sheet
   room = omega (arith, c .before .before .offset .ensures, term-room (term-read sheet sound-sheet t j t-small j-small))
 
-  count-small : c .before .before .before .term-count .result ≤ 16
-  count-small = omega (arith, c .before .before .before .term-count .ensures, count-le (record-read sheet sound-sheet t t-small))
-
   value-at : getD sheet (at + 2 + 2 * j + 1) 0 ≡ termValue sheet t j
   value-at = value-word sheet t at j (c .before .before .offset .ensures)
 
@@ -96,7 +93,9 @@ returns c =
     sym (or-found (sheet turn) (words turn) (t turn) _ (l .j) (l .a) (l .ok) (turn .loop-test .taken) (sym (kind-at (c .before .before)) ∙ c .before .if1 .taken) (c .if2 .taken)) ∙ l .inv .2
 
 add-a : tie.Need-add-a Inv-loop μ-loop
-add-a c = omega (arith, count-small (c .before .before .before .before))
+add-a c =
+    let turn = c .before .before .before .before in
+    omega (arith, turn .before .before .before .term-count .ensures, count-le (record-read (sheet turn) (sound-sheet turn) (t turn) (t-small turn)))
 
 mul-holds : tie.Need-mul-holds Inv-loop μ-loop
 mul-holds c = omega (arith, room (c .before .before .before))
