@@ -3,7 +3,7 @@ use mathlib.Core.Path.{_≡_, refl, sym, ap, ap₂, _∙_, subst}
 use mathlib.Core.Bool.{Bool, true, false, not, _&&_, cond}
 use mathlib.Core.List.{List}
 use Prim.Native.Nat.{ℕ, _+_, _-_, _*_, _/_, _^_, _≤_, _<_}
-use native.Mathlib.Nat.{add-zero, le-of-lt, pow-le-pow-right, lt-of-lt-of-le}
+use native.Mathlib.Nat.{add-zero, pow-le-pow-right, lt-of-lt-of-le}
 use native.Mathlib.Omega.{arith}
 use lib.Dec.{T, eqb}
 use lib.ListN.{length, getD}
@@ -18,8 +18,9 @@ use Rattle.meaning.specs.Table.{wordIn, kIn, bIn, sourceIn, delayIn, offsetIn, 
 use Rattle.meaning.specs.TableRun.{dueNumber, tableStateOk, cellOf, stateAfterCell, isStale, tableStep, tableTicks, tableRun}
 use Rattle.meaning.proofs.TableLaws.{dueNumber-lt}
 use Rattle.run.specs.Runs.{endedRun}
-use Rattle.run.proofs.DeadlineLaws.{stateFrom, due-deadlines, state-word, state-next, state-start, start-within}
-use Rattle.run.proofs.LoopLaws.{input-below, Reached, reached-start, reached-end, reached-foreign, reached-refused, reached-turn, stopped, stopped-refused, stopped-state, stopped-short, goes-on}
+use Rattle.run.proofs.DeadlineLaws.{stateFrom, state-next, deadline-after, state-start, start-within}
+use Rattle.run.proofs.LoopLaws.{input-below, reached-start, reached-turn, Timed, due-now, ends-refused}
+use Rattle.run.proofs.LoopLaws.{stopped, stopped-refused, stopped-state, stopped-short, goes-on}
 use Rattle.meaning.proofs.TableLaws.{cell-lt}
 use Rattle.meaning.proofs.LayoutLaws.{next-lt}
 use Rattle.table.proofs.LayoutFacts.{timers-few, timer-lt, delay-pos, delay-lt, cell-inside}
@@ -45,12 +46,10 @@ pub record Known (w : List ℕ) (k : ℕ) (delays from : List ℕ) (timed : ℕ)
 -- ---- input i is reached in block b, by the deadlines ends
 
 pub record ReachedBlock (w inputs out₀ : List ℕ) (q₀ : State) (out ends : List ℕ) (b i : ℕ) : Type 0 where
-  pub reached : Reached (kIn w) (tableStep w) inputs out₀ q₀ out 0 i (stateAt w b ends i)
+  pub timed : Timed (kIn w) (tableStep w) inputs out₀ q₀ out ends b (timersIn w b) 0 i
   pub sound : T (tableOk w)
-  pub long : length ends ≡ 64
   pub low : b < bIn w
   pub fits : timersIn w b < 2 ^ 64
-  pub ahead : (t : ℕ) → t < 64 → T (has (timersIn w b) t) → (i < getD ends t 0) × (getD ends t 0 ≤ i + 65535)
 
 -- at the start the deadlines are the readings
 module _ (w inputs out : List ℕ) (h : T (tableOk w)) (q : State) (ok : tableStateOk w q ≡ true) where
@@ -58,17 +57,15 @@ module _ (w inputs out : List ℕ) (h : T (tableOk w)) (q : State) (ok : tableSt
     pub start-block : timersIn w b < 2 ^ 64 → 5 * length inputs ≤ length out → ReachedBlock w inputs out (stateAt w b ends 0) out ends b 0
     start-block fits room =
         record {
-          reached = reached-start (kIn w) (tableStep w) inputs out (stateAt w b ends 0) room;
+          timed = record { reached = reached-start (kIn w) (tableStep w) inputs out (stateAt w b ends 0) room; long = long; ahead = rw (be, ee) ahead };
           sound = h;
-          long = long;
           low = subst (λ (x : ℕ). x < bIn w) (sym be) (admitted w h q ok .0);
           fits = fits;
-          ahead = rw (be, ee) ahead;
         }
       where
-        ahead : (t : ℕ) → t < 64 → T (has (timersIn w (q .at)) t) → (0 < getD (q .readings) t 0) × (getD (q .readings) t 0 ≤ 0 + 65535)
-        ahead t l m =
-            let r = start-within (timersIn w (q .at)) (delayIn w) q (admitted w h q ok .1) t l m in
+        ahead : (t : ℕ) → T (has (timersIn w (q .at)) t) → (0 < getD (q .readings) t 0) × (getD (q .readings) t 0 ≤ 0 + 65535)
+        ahead t m =
+            let r = start-within (timersIn w (q .at)) (delayIn w) q (admitted w h q ok .1) t (has-lt 64 (timersIn w (q .at)) t (rw be at fits) m) m in
             (omega (arith, r .0), omega (arith, r .1, delay-lt w h t))
 
     pub start-state : stateAt w b ends 0 ≡ q
@@ -87,35 +84,13 @@ module _ {w inputs out₀ : List ℕ} {q₀ : State} {out ends : List ℕ} {b i 
   idle : (t : ℕ) → t < 64 → has (timersIn w b) t ≡ false → reading (now .readings) t ≡ 0
   idle t l e = reading-now t l ∙ ap (λ (a : Bool). cond a (getD ends t 0 - i) 0) e
 
-  -- ---- the timers that run, as the code has them
-
-  module _ {timers : ℕ} (te : timers ≡ timersIn w b) where
-    -- no deadline of theirs is past
-    pub later : (t : ℕ) → has timers t ≡ true → i ≤ getD ends t 0
-    later t e =
-        let m : T (has (timersIn w b) t) = of-true (ap (λ (x : ℕ). has x t) (sym te) ∙ e) in
-        le-of-lt (k .ahead t (has-lt 64 (timersIn w b) t (k .fits) m) m .0)
-
-    -- what a run that ends now returns
-    ends-now : (e : ℕ) → endedRun ends b timers i 0 e out ≡ record { done = i; state = now; refusal = e; rounds = 0; out = out }
-    ends-now e =
-        ap (λ (x : ℕ). endedRun ends b x i 0 e out) te
-        ∙ ap (λ (q : State). record { done = i; state = q; refusal = e; rounds = 0; out = out })
-        (state-word (timersIn w b) ends i b (λ t l m. omega (arith, k .ahead t l m .1)))
-
-    pub ends-done : length inputs ≤ i → endedRun ends b timers i 0 0 out ≡ ran out₀ (tableTicks w inputs q₀)
-    ends-done l = ends-now 0 ∙ reached-end (kIn w) (tableStep w) inputs out₀ q₀ (k .reached) l
-
-    pub ends-foreign : i < length inputs → (getD inputs i 0 / 2 ^ kIn w ≡ 0 → ⊥) → endedRun ends b timers i 0 13 out ≡ ran out₀ (tableTicks w inputs q₀)
-    ends-foreign l n = ends-now 13 ∙ reached-foreign (kIn w) (tableStep w) inputs out₀ q₀ (k .reached) l n
-
-    -- six timers at most make a small number
-    pub number-small : (d : ℕ) {n : ℕ} → n ≡ dueNumber (members 64 timers) d → n < 64
-    unfolding size
-    number-small d e =
-        lt-of-lt-of-le
-        (subst (λ (x : ℕ). x < 2 ^ size 64 (timersIn w b)) (sym (e ∙ ap (λ (x : ℕ). dueNumber (members 64 x) d) te)) (dueNumber-lt (members 64 (timersIn w b)) d))
-        (pow-le-pow-right (omega arith) {i = size 64 (timersIn w b)} (timers-few w (k .sound) b (k .low)))
+  -- six timers at most make a small number
+  pub number-small : {timers : ℕ} → timers ≡ timersIn w b → (d : ℕ) {n : ℕ} → n ≡ dueNumber (members 64 timers) d → n < 64
+  unfolding size
+  number-small te d e =
+      rw (e, te)
+      (lt-of-lt-of-le (dueNumber-lt (members 64 (timersIn w b)) d)
+      (pow-le-pow-right (omega arith) {i = size 64 (timersIn w b)} (timers-few w (k .sound) b (k .low))))
 
   -- ---- the state after a cell, by the deadlines then
 
@@ -141,7 +116,7 @@ module _ {w inputs out₀ : List ℕ} {q₀ : State} {out ends : List ℕ} {b i 
             (omega (arith, delay-pos w (k .sound) next n t m l), omega (arith, delay-lt w (k .sound) t), omega arith)
         go false true g v r f =
             let at : reading (now .readings) t ≡ getD ends t 0 - i = reading-now t l ∙ ap (λ (a : Bool). cond a (getD ends t 0 - i) 0) g in
-            let far = k .ahead t l (of-true g) .1 in
+            let far = k .timed .ahead t (of-true g) .1 in
             (omega arith, omega arith, omega arith)
         go false false g v r f = absurd (omega (arith, idle t l g))
 
@@ -187,17 +162,15 @@ module _ {w inputs out₀ : List ℕ} {q₀ : State} {out ends : List ℕ} {b i 
   abbrev entered : ℕ
   entered = cellWord w b c 1
 
-  due-now : d ≡ dueTimers (timersIn w b) (q .readings)
-  due-now =
-      p .due ∙ ap (λ (x : ℕ). those 64 x (λ t. eqb (getD ends t 0) (i + 1))) (p .running)
-      ∙ due-deadlines (timersIn w b) ends i (λ t u m. k .ahead t u m .0)
+  due-is : d ≡ dueTimers (timersIn w b) (q .readings)
+  due-is = due-now (k .timed) (p .running) (p .due)
 
   place-is : cell ≡ offsetIn w b + 3 + 6 * c
   unfolding cellOf
   place-is =
       p .place
       ∙ ap (λ (x : ℕ). offsetIn w b + 3 + 6 * (x * 2 ^ kIn w + input))
-      (p .number ∙ ap₂ (λ (x y : ℕ). dueNumber (members 64 x) y) (p .running) due-now)
+      (p .number ∙ ap₂ (λ (x y : ℕ). dueNumber (members 64 x) y) (p .running) due-is)
 
   there : c < cellsIn w b
   there = cell-lt w q input (input-below (kIn w) input (p .below))
@@ -234,14 +207,16 @@ module _ {w inputs out₀ : List ℕ} {q₀ : State} {out ends : List ℕ} {b i 
   unfolding tableStep refusedIf
   turn s ends′ long fits e =
       record {
-        reached =
-            rw (next-state k c low s ends′ e)
-            (reached-turn (kIn w) (tableStep w) inputs out₀ q₀ (k .reached) (p .more) (p .below) (rw s refl) (rowFrom-length (cellWord w b c) 1 5));
+        timed = record {
+          reached =
+              rw (next-state k c low s ends′ e)
+              (reached-turn (kIn w) (tableStep w) inputs out₀ q₀ (k .timed .reached) (p .more) (p .below) (rw s refl) (rowFrom-length (cellWord w b c) 1 5));
+          long = long;
+          ahead = λ t m. let r = after k c low s ends′ e t (has-lt 64 nextTimers t fits m) m in (r .0, r .1);
+        };
         sound = h;
-        long = long;
         low = low;
         fits = fits;
-        ahead = λ t u m. let r = after k c low s ends′ e t u m in (r .0, r .1);
       }
 
   module _ {j : ℕ} {delays from : List ℕ} {timed : ℕ} (v : Known w j delays from timed) where
@@ -253,7 +228,7 @@ module _ {w inputs out₀ : List ℕ} {q₀ : State} {out ends : List ℕ} {b i 
         let same : nextBlock ≡ b = sym next-is ∙ g in
         rw (oe, five-is, ee, be)
         (subst (λ (x : ℕ). ReachedBlock w inputs out₀ q₀ (over out (5 * i) (rowFrom 1 5 (cellWord w b c))) ends x (i + 1)) same
-        (turn (stays w h q c low (idle k) d due-now (ap (timersIn w) same) dz none) ends (k .long) (subst (λ (x : ℕ). timersIn w x < 2 ^ 64) (sym same) (k .fits))
+        (turn (stays w h q c low (idle k) d due-is (ap (timersIn w) same) dz none) ends (k .timed .long) (subst (λ (x : ℕ). timersIn w x < 2 ^ 64) (sym same) (k .fits))
         (λ t u m. ap (λ (a : Bool). cond a (i + 1 + delayIn w t) (getD ends t 0)) (sym (none t u m)))))
       where
         none : (t : ℕ) → t < 64 → T (has nextTimers t) → has entered (sourceIn w t) ≡ false
@@ -279,13 +254,12 @@ module _ {w inputs out₀ : List ℕ} {q₀ : State} {out ends : List ℕ} {b i 
 
       stale-now : isStale w (stateAfterCell w q c) ≡ not (eqb (minus (minus later again) (minus timers d)) 0)
       stale-now =
-          stale-is w h q c low (idle k) d due-now again next-fits again-there
+          stale-is w h q c low (idle k) d due-is again next-fits again-there
           ∙ ap₂ (λ (x y : ℕ). not (eqb (minus (minus x again) (minus y d)) 0)) (sym next-timers) (sym (p .running))
 
       pub ends-stale : not (eqb (minus (minus later again) (minus timers d)) 0) ≡ true → endedRun ends b timers i 0 15 out ≡ ran out₀ (tableTicks w inputs q₀)
       ends-stale g =
-          ends-now k (p .running) 15
-          ∙ reached-refused (kIn w) (tableStep w) inputs out₀ q₀ (k .reached) (p .more) (p .below) (refused (stale-now ∙ g)) (λ z. omega arith)
+          ends-refused (k .timed) (p .running) (p .more) (p .below) (refused (stale-now ∙ g)) (λ z. omega arith)
 
       pub turn-moves : not (eqb (minus (minus later again) (minus timers d)) 0) ≡ false
           → {out′ ends′ : List ℕ} → out′ ≡ over out (5 * i) (fiveIn w cell)
@@ -299,8 +273,7 @@ module _ {w inputs out₀ : List ℕ} {q₀ : State} {out ends : List ℕ} {b i 
 
           at : (t : ℕ) → t < 64 → T (has nextTimers t) → getD ends′ t 0 ≡ cond (has entered (sourceIn w t)) (i + 1 + delayIn w t) (getD ends t 0)
           at t u m =
-              ap (λ (r : List ℕ). getD r t 0) ee ∙ row-at 64 f t u
-              ∙ ap₂ (λ (a : Bool) (x : ℕ). cond a (i + 1 + x) (getD ends t 0)) (again-there t u m)
+              deadline-after again i delays ends ee t u (again-there t u m)
               (ap (λ (r : List ℕ). getD r t 0) (v .delaysAre) ∙ delay-at w t u (timer-lt w h nextBlock low t m u))
 
 -- ---- the whole run: 15, 14, 12, then tick by tick

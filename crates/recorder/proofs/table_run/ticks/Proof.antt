@@ -17,14 +17,14 @@ use Rattle.meaning.specs.Table.{timersIn}
 use Rattle.meaning.specs.Run.{State, ran}
 use Rattle.meaning.specs.TableRun.{tableTicks}
 use Rattle.run.specs.States.{stateOf}
-use Rattle.run.proofs.LoopLaws.{input-below}
+use Rattle.run.proofs.LoopLaws.{input-below, later, ends-done, ends-foreign}
 use Rattle.table.proofs.LayoutFacts.{head-sound, k-le}
 use Rattle.recorder.specs.declared.table_run.TableBlock.{TableBlock}
 use Rattle.recorder.specs.Runs.{TableBlockOf}
 use Rattle.recorder.proofs.TimerLaws.{delays-small}
 use Rattle.recorder.proofs.TableStateLaws.{admitted}
 use Rattle.recorder.proofs.RestartLaws.{from-word}
-use Rattle.recorder.proofs.TableRunLaws.{stateAt, Known, ReachedBlock, start-block, start-state, later, ends-done, ends-foreign, number-small}
+use Rattle.recorder.proofs.TableRunLaws.{stateAt, Known, ReachedBlock, start-block, start-state, number-small}
 use Rattle.recorder.proofs.TableRunLaws.{Chosen, cell-room, next-below, turn-stays, ends-stale, turn-moves}
 use Rattle.recorder.proofs.table_run.ticks.Statement.{statement}
 use Rattle.recorder.proofs.table_run.ticks.Tie as tie
@@ -87,7 +87,7 @@ short c = let s = start (c .before) in omega (arith, c .loop-test .taken, s .goo
 
 -- no deadline of a running timer is past
 not-past : (c : tie.At-loop Inv-loop μ-loop) (t : ℕ) → has (c .loop .b .timers) t ≡ true → c .loop .i ≤ getD (c .loop .ends) t 0
-not-past c = later (c .loop .inv .1) (c .loop .inv .2 .1)
+not-past c = later (c .loop .inv .1 .timed) (c .loop .inv .2 .1)
 
 -- the state by the block and the deadlines at the start, and the run from there
 abbrev first : tie.At-loop Inv-loop μ-loop → State
@@ -199,7 +199,7 @@ returns c =
     let inv = at .loop .inv in
     let input = getD (start at .args .inputs .now) (at .loop .i) 0 in
     c .ended .ensures (at .loop .out)
-    ∙ ends-foreign (inv .1) (inv .2 .1) (test .loop-test .taken) (λ e. foreign .if1 .taken (ap (λ (k : ℕ). input / 2 ^ k) (inv .0 .eventsAre) ∙ e))
+    ∙ ends-foreign (inv .1 .timed) (inv .2 .1) (test .loop-test .taken) (λ e. foreign .if1 .taken (ap (λ (k : ℕ). input / 2 ^ k) (inv .0 .eventsAre) ∙ e))
     ∙ from-start at
 
 add-now : tie.Need-add-now Inv-loop μ-loop
@@ -256,7 +256,7 @@ ended-requires-2 : tie.Need-ended-requires-2 Inv-loop μ-loop
 ended-requires-2 c κs = not-past (head (left (c .before .before)))
 
 same-length-2 : tie.Need-same-length-2 Inv-loop μ-loop
-same-length-2 c = omega (arith, head (left (c .before .before .before)) .loop .inv .1 .reached .same)
+same-length-2 c = omega (arith, head (left (c .before .before .before)) .loop .inv .1 .timed .reached .same)
 
 returns-2 : tie.Need-returns-2 Inv-loop μ-loop
 returns-2 c =
@@ -275,7 +275,7 @@ restart-requires : tie.Need-restart-requires Inv-loop μ-loop
 restart-requires c κs =
     let cell = left (c .before .before) in
     let inv = head cell .loop .inv in (
-      inv .1 .long,
+      inv .1 .timed .long,
       omega (arith, short (inside (below cell))),
       λ t l. omega (arith, ap (λ (r : List ℕ). getD r t 0) (inv .0 .delaysAre), delays-small _ (inv .0 .sound) t l),
     )
@@ -289,7 +289,7 @@ five-at-requires c κs = room (numbered (c .before .before)) .0
 put-five-requires : tie.Need-put-five-requires Inv-loop μ-loop
 put-five-requires c κs =
     let on = inside (below (numbered (c .before .before .before))) in
-    omega (arith, on .loop-test .taken, on .before .loop .inv .1 .reached .room)
+    omega (arith, on .loop-test .taken, on .before .loop .inv .1 .timed .reached .room)
 
 add-i : tie.Need-add-i Inv-loop μ-loop
 add-i c = omega (arith, short (inside (below (done c))))
@@ -332,7 +332,7 @@ returns-3 : tie.Need-returns-3 Inv-loop μ-loop
 returns-3 c =
     let over = c .before .before in
     let at = over .before in
-    c .ended3 .ensures (at .loop .out) ∙ ends-done (at .loop .inv .1) (at .loop .inv .2 .1) (over .loop-test .left) ∙ from-start at
+    c .ended3 .ensures (at .loop .out) ∙ ends-done (at .loop .inv .1 .timed) (at .loop .inv .2 .1) (over .loop-test .left) ∙ from-start at
 
 pub ticks-spec : {M : Type 1} → statement M
 ticks-spec =

@@ -18,10 +18,9 @@ use Rattle.reaction.specs.Plan.{timersWord}
 use Rattle.reaction.proofs.PlanLaws.{running-meet}
 use Rattle.run.specs.Counts.{totalOf}
 use Rattle.run.specs.States.{stateOf}
-use Rattle.run.proofs.LoopLaws.{input-below}
+use Rattle.run.proofs.LoopLaws.{input-below, later, ends-done, ends-foreign}
 use Rattle.simulator.proofs.DelayLaws.{delay-word}
-use Rattle.simulator.proofs.SheetRunLaws.{stateAt, ReachedModes, start-state, start-modes, later, ends-done, ends-foreign}
-use Rattle.simulator.proofs.SheetRunLaws.{tick-begins, ends-refused, next-turn}
+use Rattle.simulator.proofs.SheetRunLaws.{stateAt, ReachedModes, start-state, start-modes, tick-begins, tick-refused, next-turn}
 use Rattle.simulator.proofs.sheet_run.ticks.Statement.{statement}
 use Rattle.simulator.proofs.sheet_run.ticks.Tie as tie
 
@@ -111,7 +110,7 @@ runs c = ap₂ meet (c .loop .inv .0 .sources) (start c .pre .0 .timingAt) ∙ r
 
 not-past : (c : tie.At-loop Inv-loop μ-loop) (t : ℕ)
     → has (meet (c .loop .live) (getD (start c .args .plan .now) timersWord 0)) t ≡ true → c .loop .i ≤ getD (c .loop .ends) t 0
-not-past c = later (c .loop .inv .0) (runs c)
+not-past c = later (c .loop .inv .0 .timed) (runs c)
 
 -- the run from the deadlines at the start is the run from the readings
 long : (c : tie.After-deadlines Inv-loop μ-loop) → length (c .deadlines .result) ≡ 64
@@ -180,7 +179,7 @@ returns c =
     let at = in-turn .before in
     let input = getD (start at .args .inputs .now) (at .loop .i) 0 in (
       c .ended .ensures .0 (at .loop .out)
-          ∙ ends-foreign (at .loop .inv .0) (runs at) (in-turn .loop-test .taken)
+          ∙ ends-foreign (at .loop .inv .0 .timed) (runs at) (in-turn .loop-test .taken)
           (λ e. foreign .if1 .taken (ap (λ (k : ℕ). input / 2 ^ k) (count-is at) ∙ e))
           ∙ from-start at,
       omega (arith, c .ended .ensures .1, at .loop .inv .1),
@@ -204,7 +203,7 @@ ended-requires-2 : tie.Need-ended-requires-2 Inv-loop μ-loop
 ended-requires-2 c κs = not-past (head (ticked (c .before .before)))
 
 same-length-2 : tie.Need-same-length-2 Inv-loop μ-loop
-same-length-2 c = omega (arith, head (ticked (c .before .before .before)) .loop .inv .0 .reached .same)
+same-length-2 c = omega (arith, head (ticked (c .before .before .before)) .loop .inv .0 .timed .reached .same)
 
 returns-2 : tie.Need-returns-2 Inv-loop μ-loop
 returns-2 c =
@@ -212,7 +211,7 @@ returns-2 c =
     let tick = ticked (refused .before) in
     let at = head tick in (
       c .ended2 .ensures .0 (at .loop .out)
-          ∙ ends-refused (at .loop .inv .0) (runs at) (tick .before .due .ensures .0) (inside tick .loop-test .taken) (input-ok (known (tick .before)))
+          ∙ tick-refused (at .loop .inv .0) (runs at) (tick .before .due .ensures .0) (inside tick .loop-test .taken) (input-ok (known (tick .before)))
           (tick .tick .ensures .0) (λ e. refused .if2 .taken (refused .before .number .ensures ∙ e))
           ∙ from-start at,
       omega (arith, c .ended2 .ensures .1, at .loop .inv .1),
@@ -225,7 +224,7 @@ restart-requires : tie.Need-restart-requires Inv-loop μ-loop
 restart-requires c κs =
     let tick = reacted c in
     let at = head tick in
-    (at .loop .inv .0 .long, omega (arith, short (inside tick)), λ t l. delay-word _ (start at .pre .1) t l (sheet-sound at))
+    (at .loop .inv .0 .timed .long, omega (arith, short (inside tick)), λ t l. delay-word _ (start at .pre .1) t l (sheet-sound at))
 
 mul-put-five : tie.Need-mul-put-five Inv-loop μ-loop
 mul-put-five c = omega (arith, short (inside (reacted (restarted c .before))))
@@ -236,7 +235,7 @@ five-words-requires c κs = search needs
 put-five-requires : tie.Need-put-five-requires Inv-loop μ-loop
 put-five-requires c κs =
     let on = inside (reacted (moved c .before)) in
-    omega (arith, on .loop-test .taken, on .before .loop .inv .0 .reached .room)
+    omega (arith, on .loop-test .taken, on .before .loop .inv .0 .timed .reached .room)
 
 with-rounds-requires : tie.Need-with-rounds-requires Inv-loop μ-loop
 with-rounds-requires c κs =
@@ -277,7 +276,7 @@ returns-3 : tie.Need-returns-3 Inv-loop μ-loop
 returns-3 c =
     let over = c .before .before in
     let at = over .before in (
-      c .ended3 .ensures .0 (at .loop .out) ∙ ends-done (at .loop .inv .0) (runs at) (over .loop-test .left) ∙ from-start at,
+      c .ended3 .ensures .0 (at .loop .out) ∙ ends-done (at .loop .inv .0 .timed) (runs at) (over .loop-test .left) ∙ from-start at,
       omega (arith, c .ended3 .ensures .1, at .loop .inv .1),
     )
 
