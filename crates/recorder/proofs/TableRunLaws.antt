@@ -15,12 +15,11 @@ use Rattle.rows.specs.Over.{over}
 use Rattle.meaning.specs.Lists.{rowFrom, refusedIf}
 use Rattle.meaning.specs.Run.{State, reading, dueTimers, ran}
 use Rattle.meaning.specs.Table.{wordIn, kIn, bIn, sourceIn, delayIn, offsetIn, timersIn, cellsIn, cellWord, tableOk}
-use Rattle.meaning.specs.TableRun.{dueNumber, tableStateOk, cellOf, stateAfterCell, isStale, tableStep, tableTicks, tableRun}
+use Rattle.meaning.specs.TableRun.{dueNumber, tableStateOk, cellOf, stateAfterCell, isStale, tableStep, tableTicks}
 use Rattle.meaning.proofs.TableLaws.{dueNumber-lt}
 use Rattle.run.specs.Runs.{endedRun}
 use Rattle.run.proofs.DeadlineLaws.{stateFrom, state-next, deadline-after, state-start, start-within}
 use Rattle.run.proofs.LoopLaws.{input-below, reached-start, reached-turn, Timed, due-now, ends-refused}
-use Rattle.run.proofs.LoopLaws.{stopped, stopped-refused, stopped-state, stopped-short, goes-on}
 use Rattle.meaning.proofs.TableLaws.{cell-lt}
 use Rattle.meaning.proofs.LayoutLaws.{next-lt}
 use Rattle.table.proofs.LayoutFacts.{timers-few, timer-lt, delay-pos, delay-lt, cell-inside}
@@ -52,26 +51,27 @@ pub record ReachedBlock (w inputs out₀ : List ℕ) (q₀ : State) (out ends : 
   pub fits : timersIn w b < 2 ^ 64
 
 -- at the start the deadlines are the readings
-module _ (w inputs out : List ℕ) (h : T (tableOk w)) (q : State) (ok : tableStateOk w q ≡ true) where
-  module _ {b : ℕ} {ends : List ℕ} (be : b ≡ q .at) (ee : ends ≡ q .readings) (long : length ends ≡ 64) where
-    pub start-block : timersIn w b < 2 ^ 64 → 5 * length inputs ≤ length out → ReachedBlock w inputs out (stateAt w b ends 0) out ends b 0
-    start-block fits room =
-        record {
-          timed = record { reached = reached-start (kIn w) (tableStep w) inputs out (stateAt w b ends 0) room; long = long; ahead = rw (be, ee) ahead };
-          sound = h;
-          low = subst (λ (x : ℕ). x < bIn w) (sym be) (admitted w h q ok .0);
-          fits = fits;
-        }
-      where
-        ahead : (t : ℕ) → T (has (timersIn w (q .at)) t) → (0 < getD (q .readings) t 0) × (getD (q .readings) t 0 ≤ 0 + 65535)
-        ahead t m =
-            let r = start-within (timersIn w (q .at)) (delayIn w) q (admitted w h q ok .1) t (has-lt 64 (timersIn w (q .at)) t (rw be at fits) m) m in
-            (omega (arith, r .0), omega (arith, r .1, delay-lt w h t))
+module _ (w : List ℕ) (h : T (tableOk w)) (q : State) (ok : tableStateOk w q ≡ true) {b : ℕ} {ends : List ℕ} (be : b ≡ q .at)
+    (ee : ends ≡ q .readings) (long : length ends ≡ 64) where
+  pub start-state : stateAt w b ends 0 ≡ q
+  start-state =
+      ap₂ (λ (x : ℕ) (l : List ℕ). stateAt w x l 0) be ee
+      ∙ state-start (timersIn w (q .at)) (delayIn w) q (admitted w h q ok .1) (sym (ap length ee) ∙ long)
 
-    pub start-state : stateAt w b ends 0 ≡ q
-    start-state =
-        ap₂ (λ (x : ℕ) (l : List ℕ). stateAt w x l 0) be ee
-        ∙ state-start (timersIn w (q .at)) (delayIn w) q (admitted w h q ok .1) (sym (ap length ee) ∙ long)
+  pub start-block : {inputs out : List ℕ} → timersIn w b < 2 ^ 64 → 5 * length inputs ≤ length out
+      → ReachedBlock w inputs out (stateAt w b ends 0) out ends b 0
+  start-block {inputs} {out} fits room =
+      record {
+        timed = record { reached = reached-start (kIn w) (tableStep w) inputs out (stateAt w b ends 0) room; long = long; ahead = rw (be, ee) ahead };
+        sound = h;
+        low = subst (λ (x : ℕ). x < bIn w) (sym be) (admitted w h q ok .0);
+        fits = fits;
+      }
+    where
+      ahead : (t : ℕ) → T (has (timersIn w (q .at)) t) → (0 < getD (q .readings) t 0) × (getD (q .readings) t 0 ≤ 0 + 65535)
+      ahead t m =
+          let r = start-within (timersIn w (q .at)) (delayIn w) q (admitted w h q ok .1) t (has-lt 64 (timersIn w (q .at)) t (rw be at fits) m) m in
+          (omega (arith, r .0), omega (arith, r .1, delay-lt w h t))
 
 module _ {w inputs out₀ : List ℕ} {q₀ : State} {out ends : List ℕ} {b i : ℕ} (k : ReachedBlock w inputs out₀ q₀ out ends b i) where
   abbrev now : State
@@ -275,27 +275,3 @@ module _ {w inputs out₀ : List ℕ} {q₀ : State} {out ends : List ℕ} {b i 
           at t u m =
               deadline-after again i delays ends ee t u (again-there t u m)
               (ap (λ (r : List ℕ). getD r t 0) (v .delaysAre) ∙ delay-at w t u (timer-lt w h nextBlock low t m u))
-
--- ---- the whole run: 15, 14, 12, then tick by tick
-
-module _ (w inputs out : List ℕ) (q : State) where
-  pub run-bad-table : tableOk w ≡ false → stopped q out 15 ≡ tableRun w q inputs out
-  unfolding tableRun refusedIf
-  run-bad-table e = stopped-refused (kIn w) (tableStep w) _ (tableStateOk w q) q inputs out (rw e refl) (λ z. omega arith)
-
-  module _ (z : tableOk w ≡ true) where
-    no-refusal : refusedIf (not (tableOk w)) 15 ≡ 0
-    unfolding refusedIf
-    no-refusal = rw z refl
-
-    pub run-bad-state : tableStateOk w q ≡ false → stopped q out 14 ≡ tableRun w q inputs out
-    unfolding tableRun
-    run-bad-state e = stopped-state (kIn w) (tableStep w) _ _ q inputs out no-refusal e
-
-    pub run-short : tableStateOk w q ≡ true → length out / 5 < length inputs → stopped q out 12 ≡ tableRun w q inputs out
-    unfolding tableRun
-    run-short e h = stopped-short (kIn w) (tableStep w) _ _ q inputs out no-refusal e h
-
-    pub run-ticks : tableStateOk w q ≡ true → 5 * length inputs ≤ length out → ran out (tableTicks w inputs q) ≡ tableRun w q inputs out
-    unfolding tableRun
-    run-ticks e h = goes-on (kIn w) (tableStep w) _ _ q inputs out no-refusal e h

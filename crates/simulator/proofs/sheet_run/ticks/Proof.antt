@@ -10,8 +10,6 @@ use Rattle.sets.specs.Sets.{has, meet}
 use Rattle.rows.specs.Over.{over}
 use Rattle.meaning.specs.Sheet.{kOf}
 use Rattle.meaning.specs.Reaction.{running}
-use Rattle.meaning.specs.Run.{State, ran}
-use Rattle.meaning.specs.SheetRun.{sheetTicks}
 use Rattle.meaning.proofs.SheetLaws.{Sound, sound, k-le}
 use Rattle.sheet.proofs.Past.{head-read}
 use Rattle.reaction.specs.Plan.{timersWord}
@@ -112,19 +110,13 @@ not-past : (c : tie.At-loop Inv-loop μ-loop) (t : ℕ)
     → has (meet (c .loop .live) (getD (start c .args .plan .now) timersWord 0)) t ≡ true → c .loop .i ≤ getD (c .loop .ends) t 0
 not-past c = later (c .loop .inv .0 .timed) (runs c)
 
--- the run from the deadlines at the start is the run from the readings
+-- the state by the deadlines at the start is the start
 long : (c : tie.After-deadlines Inv-loop μ-loop) → length (c .deadlines .result) ≡ 64
 long c = search needs
 
 from-start : (c : tie.At-loop Inv-loop μ-loop)
-    → let a = start c .args in
-    ran (a .out .now) (sheetTicks (a .sheet .now) (a .inputs .now) (stateAt (a .sheet .now) (a .start .at) (dates c .deadlines .result) 0))
-    ≡ ran (a .out .now) (sheetTicks (a .sheet .now) (a .inputs .now) (stateOf (a .start)))
-from-start c =
-    let s = start c in
-    let a = s .args in
-    ap (λ (q : State). ran (a .out .now) (sheetTicks (a .sheet .now) (a .inputs .now) q))
-    (start-state (a .sheet .now) (sheet-sound c) (stateOf (a .start)) (s .pre .2) (dates c .deadlines .ensures) (long (dates c)))
+    → let a = start c .args in stateAt (a .sheet .now) (a .start .at) (dates c .deadlines .result) 0 ≡ stateOf (a .start)
+from-start c = start-state _ (sheet-sound c) (stateOf (start c .args .start)) (start c .pre .2) (dates c .deadlines .ensures) (long (dates c))
 
 -- the input set has no bit at k or above
 input-ok : (c : tie.Else1 Inv-loop μ-loop)
@@ -179,9 +171,8 @@ returns c =
     let at = in-turn .before in
     let input = getD (start at .args .inputs .now) (at .loop .i) 0 in (
       c .ended .ensures .0 (at .loop .out)
-          ∙ ends-foreign (at .loop .inv .0 .timed) (runs at) (in-turn .loop-test .taken)
-          (λ e. foreign .if1 .taken (ap (λ (k : ℕ). input / 2 ^ k) (count-is at) ∙ e))
-          ∙ from-start at,
+          ∙ rw (from-start at) at (ends-foreign (at .loop .inv .0 .timed) (runs at) (in-turn .loop-test .taken)
+          (λ e. foreign .if1 .taken (ap (λ (k : ℕ). input / 2 ^ k) (count-is at) ∙ e))),
       omega (arith, c .ended .ensures .1, at .loop .inv .1),
     )
 
@@ -211,9 +202,8 @@ returns-2 c =
     let tick = ticked (refused .before) in
     let at = head tick in (
       c .ended2 .ensures .0 (at .loop .out)
-          ∙ tick-refused (at .loop .inv .0) (runs at) (tick .before .due .ensures .0) (inside tick .loop-test .taken) (input-ok (known (tick .before)))
-          (tick .tick .ensures .0) (λ e. refused .if2 .taken (refused .before .number .ensures ∙ e))
-          ∙ from-start at,
+          ∙ rw (from-start at) at (tick-refused (at .loop .inv .0) (runs at) (tick .before .due .ensures .0) (inside tick .loop-test .taken)
+          (input-ok (known (tick .before))) (tick .tick .ensures .0) (λ e. refused .if2 .taken (refused .before .number .ensures ∙ e))),
       omega (arith, c .ended2 .ensures .1, at .loop .inv .1),
     )
 
@@ -276,7 +266,7 @@ returns-3 : tie.Need-returns-3 Inv-loop μ-loop
 returns-3 c =
     let over = c .before .before in
     let at = over .before in (
-      c .ended3 .ensures .0 (at .loop .out) ∙ ends-done (at .loop .inv .0 .timed) (runs at) (over .loop-test .left) ∙ from-start at,
+      c .ended3 .ensures .0 (at .loop .out) ∙ rw (from-start at) at (ends-done (at .loop .inv .0 .timed) (runs at) (over .loop-test .left)),
       omega (arith, c .ended3 .ensures .1, at .loop .inv .1),
     )
 
