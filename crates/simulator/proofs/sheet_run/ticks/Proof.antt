@@ -31,26 +31,16 @@ abbrev μ-loop : tie.MeasureT-loop
 
 -- ---- the places that the needs go back to, each from the one after it
 
--- before the loop: the entry, the events counted, the deadlines
+-- before the loop: the entry, the deadlines
 abbrev entry : tie.After-timers Inv-loop μ-loop → tie.Start Inv-loop μ-loop
 entry c = c .before .before .before .before
-
-abbrev counted : tie.After-deadlines Inv-loop μ-loop → tie.After-event-count Inv-loop μ-loop
-counted c = c .before .before
 
 abbrev dates : tie.At-loop Inv-loop μ-loop → tie.After-deadlines Inv-loop μ-loop
 dates c = c .before .before
 
--- in a turn: the input set read, and below 2^k; the tick, and not refused; the timers that start; the deadlines; the five words
--- put; the rounds added
-abbrev turn : tie.After-shared-slice-known3 Inv-loop μ-loop → tie.In-loop Inv-loop μ-loop
-turn c = c .before
-
+-- in a turn: the input set below 2^k; the tick not refused; the timers that start; the five words put
 abbrev known : tie.After-due Inv-loop μ-loop → tie.Else1 Inv-loop μ-loop
 known c = c .before .before
-
-abbrev ticked : tie.After-number Inv-loop μ-loop → tie.After-tick Inv-loop μ-loop
-ticked c = c .before
 
 abbrev allowed : tie.After-from-set2 Inv-loop μ-loop → tie.Else2 Inv-loop μ-loop
 allowed c = c .before .before
@@ -58,33 +48,27 @@ allowed c = c .before .before
 abbrev started : tie.After-ends4 Inv-loop μ-loop → tie.After-from-set2 Inv-loop μ-loop
 started c = c .before .before
 
-abbrev restarted : tie.After-put-five-arg Inv-loop μ-loop → tie.After-restart Inv-loop μ-loop
-restarted c = c .before
-
 abbrev put : tie.After-slice-known2 Inv-loop μ-loop → tie.After-put-five Inv-loop μ-loop
 put c = c .before .before
 
-abbrev added : tie.After-with-rounds Inv-loop μ-loop → tie.After-slice-known2 Inv-loop μ-loop
-added c = c .before
-
 -- the entry from the deadlines and from the loop's head; the turn and the head from the tick; the tick and the deadlines from later on
 abbrev begun : tie.After-deadlines Inv-loop μ-loop → tie.Start Inv-loop μ-loop
-begun c = entry (counted c .before)
+begun c = entry (c .before .before .before)
 
 abbrev start : tie.At-loop Inv-loop μ-loop → tie.Start Inv-loop μ-loop
 start c = begun (dates c)
 
 abbrev inside : tie.After-tick Inv-loop μ-loop → tie.In-loop Inv-loop μ-loop
-inside c = turn (known (c .before) .before)
+inside c = known (c .before) .before .before
 
 abbrev head : tie.After-tick Inv-loop μ-loop → tie.At-loop Inv-loop μ-loop
 head c = inside c .before
 
 abbrev reacted : tie.After-ends4 Inv-loop μ-loop → tie.After-tick Inv-loop μ-loop
-reacted c = ticked (allowed (started c) .before)
+reacted c = allowed (started c) .before .before
 
 abbrev moved : tie.After-five-words Inv-loop μ-loop → tie.After-restart Inv-loop μ-loop
-moved c = restarted (c .before)
+moved c = c .before .before
 
 abbrev inputs-left : tie.After-slice-known2 Inv-loop μ-loop → tie.In-loop Inv-loop μ-loop
 inputs-left c = inside (reacted (moved (put c .before) .before))
@@ -94,8 +78,8 @@ inputs-left c = inside (reacted (moved (put c .before) .before))
 sheet-sound : (c : tie.At-loop Inv-loop μ-loop) → Sound (start c .args .sheet .now)
 sheet-sound c = sound _ (start c .pre .0 .passes)
 
-count-is : (c : tie.At-loop Inv-loop μ-loop) → counted (dates c) .event-count .result ≡ kOf (start c .args .sheet .now)
-count-is c = counted (dates c) .event-count .ensures
+count-is : (c : tie.At-loop Inv-loop μ-loop) → dates c .before .before .event-count .result ≡ kOf (start c .args .sheet .now)
+count-is c = dates c .before .before .event-count .ensures
 
 -- so few ticks that every count fits
 short : (c : tie.In-loop Inv-loop μ-loop) → c .before .loop .i < 2305843009213693952
@@ -120,10 +104,10 @@ from-start c = start-state _ (sheet-sound c) (stateOf (start c .args .start)) (s
 
 -- the input set has no bit at k or above
 input-ok : (c : tie.Else1 Inv-loop μ-loop)
-    → let at = turn (c .before) .before in
+    → let at = c .before .before .before in
     getD (start at .args .inputs .now) (at .loop .i) 0 / 2 ^ kOf (start at .args .sheet .now) ≡ 0
 input-ok c =
-    let at = turn (c .before) .before in
+    let at = c .before .before .before in
     ap (λ (k : ℕ). getD (start at .args .inputs .now) (at .loop .i) 0 / 2 ^ k) (sym (count-is at)) ∙ c .if1 .left
 
 -- ---- the needs
@@ -156,10 +140,10 @@ shared-slice-read-input : tie.Need-shared-slice-read-input Inv-loop μ-loop
 shared-slice-read-input c = search needs
 
 shr-if1 : tie.Need-shr-if1 Inv-loop μ-loop
-shr-if1 c = let at = turn c .before in omega (arith, count-is at, k-le _ (sheet-sound at))
+shr-if1 c = let at = c .before .before in omega (arith, count-is at, k-le _ (sheet-sound at))
 
 ended-requires : tie.Need-ended-requires Inv-loop μ-loop
-ended-requires c κs = not-past (turn (c .before .before) .before)
+ended-requires c κs = not-past (c .before .before .before .before)
 
 same-length : tie.Need-same-length Inv-loop μ-loop
 same-length c = search needs
@@ -167,7 +151,7 @@ same-length c = search needs
 returns : tie.Need-returns Inv-loop μ-loop
 returns c =
     let foreign = c .before .before in
-    let in-turn = turn (foreign .before) in
+    let in-turn = foreign .before .before in
     let at = in-turn .before in
     let input = getD (start at .args .inputs .now) (at .loop .i) 0 in (
       c .ended .ensures .0 (at .loop .out)
@@ -184,22 +168,22 @@ due-requires c κs = search needs
 
 tick-requires : tie.Need-tick-requires Inv-loop μ-loop
 tick-requires c κs =
-    let at = turn (known c .before) .before in
+    let at = known c .before .before .before in
     (start at .pre .0, tick-begins (at .loop .inv .0) (runs at) (c .due .ensures .0), input-below _ _ (input-ok (known c)))
 
 number-requires : tie.Need-number-requires Inv-loop μ-loop
 number-requires c κs = search needs
 
 ended-requires-2 : tie.Need-ended-requires-2 Inv-loop μ-loop
-ended-requires-2 c κs = not-past (head (ticked (c .before .before)))
+ended-requires-2 c κs = not-past (head (c .before .before .before))
 
 same-length-2 : tie.Need-same-length-2 Inv-loop μ-loop
-same-length-2 c = omega (arith, head (ticked (c .before .before .before)) .loop .inv .0 .timed .reached .same)
+same-length-2 c = omega (arith, head (c .before .before .before .before) .loop .inv .0 .timed .reached .same)
 
 returns-2 : tie.Need-returns-2 Inv-loop μ-loop
 returns-2 c =
     let refused = c .before .before in
-    let tick = ticked (refused .before) in
+    let tick = refused .before .before in
     let at = head tick in (
       c .ended2 .ensures .0 (at .loop .out)
           ∙ rw (from-start at) at (tick-refused (at .loop .inv .0) (runs at) (tick .before .due .ensures .0) (inside tick .loop-test .taken)
@@ -208,7 +192,7 @@ returns-2 c =
     )
 
 from-set-requires-2 : tie.Need-from-set-requires-2 Inv-loop μ-loop
-from-set-requires-2 c κs = start (head (ticked (c .before .before))) .pre .0 .fromAt
+from-set-requires-2 c κs = start (head (c .before .before .before)) .pre .0 .fromAt
 
 restart-requires : tie.Need-restart-requires Inv-loop μ-loop
 restart-requires c κs =
@@ -217,7 +201,7 @@ restart-requires c κs =
     (at .loop .inv .0 .timed .long, omega (arith, short (inside tick)), λ t l. delay-word _ (start at .pre .1) t l (sheet-sound at))
 
 mul-put-five : tie.Need-mul-put-five Inv-loop μ-loop
-mul-put-five c = omega (arith, short (inside (reacted (restarted c .before))))
+mul-put-five c = omega (arith, short (inside (reacted (c .before .before))))
 
 five-words-requires : tie.Need-five-words-requires Inv-loop μ-loop
 five-words-requires c κs = search needs
@@ -233,18 +217,18 @@ with-rounds-requires c κs =
     (omega (arith, short on, on .before .loop .inv .0 .few), on .before .loop .inv .1)
 
 add-i : tie.Need-add-i Inv-loop μ-loop
-add-i c = omega (arith, short (inputs-left (added c)))
+add-i c = omega (arith, short (inputs-left (c .before)))
 
 loop-less : tie.Need-loop-less Inv-loop μ-loop
-loop-less c = omega (arith, inputs-left (added c) .loop-test .taken)
+loop-less c = omega (arith, inputs-left (c .before) .loop-test .taken)
 
 loop-again : tie.Need-loop-again Inv-loop μ-loop
 loop-again c =
-    let out = put (added c) in
+    let out = put (c .before) in
     let dates = moved (out .before) in
     let starts = started (dates .before) in
     let ok = allowed starts in
-    let tick = ticked (ok .before) in
+    let tick = ok .before .before in
     let at = head tick in
     let p = start at .pre in (
       next-turn (at .loop .inv .0) (runs at) (tick .before .due .ensures .0) (inside tick .loop-test .taken) (input-ok (known (tick .before)))
