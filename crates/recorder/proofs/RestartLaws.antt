@@ -6,6 +6,7 @@ use Prim.Native.Nat.{ℕ, _-_, _^_, _<_}
 use native.Mathlib.Nat.{pos-of-ne-zero, lt-of-lt-of-le, lt-of-le-of-lt, pow-le-pow-right}
 use native.Mathlib.Omega.{arith}
 use lib.Dec.{T, eqb, ltb, eqb→eq, lt→ltb, eqb-refl}
+use lib.Bits.{and-self}
 use lib.ListN.{getD}
 use borrow.Author.Tests.{eq-eqb, ne-eqb}
 use Rattle.sets.specs.Sets.{has, meet, minus, setOf, those, someIn}
@@ -175,16 +176,9 @@ module _ (w : List ℕ) (h : T (tableOk w)) where
               ∙ sym (has-those 64 timersNext p t k))
 
       -- a tick with the same timers next, none due and no source entered is not refused
-      pub stays : timersNext ≡ timersNow → due ≡ 0 → ((t : ℕ) → t < 64 → T (has timersNext t) → has enteredNow (sourceIn w t) ≡ false)
-          → isStale w (stateAfterCell w q c) ≡ false
-      unfolding isStale stateAfterCell nextState
-      stays e z n = is-false (someIn 64 timersNext p) (λ g. let r = someIn-e 64 timersNext p g in of-false (left (r .0) (r .1) (r .2)) (r .3))
-        where
-          p : ℕ → Bool
-          p t = eqb (reading (stateAfterCell w q c .readings) t) 0
-
-          left : (t : ℕ) → t < 64 → T (has timersNext t) → p t ≡ false
-          left t k m =
-              let on : has timersNow t ≡ true = ap (λ (x : ℕ). has x t) (sym e) ∙ is-true (has timersNext t) m in
-              let off : has due t ≡ false = ap (λ (x : ℕ). has x t) z ∙ has-none t in
-              spent t k m ∙ rw (n t k m, on, off)
+      pub stays : timersNext < 2 ^ 64 → timersNext ≡ timersNow → due ≡ 0
+          → ((t : ℕ) → t < 64 → T (has timersNext t) → has enteredNow (sourceIn w t) ≡ false) → isStale w (stateAfterCell w q c) ≡ false
+      unfolding minus
+      stays small e z n =
+          let none : minus (minus timersNext 0) (minus timersNow due) ≡ 0 = rw (e, z) (omega (arith, and-self (minus timersNow 0))) in
+          stale-is 0 small (λ t k m. has-none t ∙ sym (n t k m)) ∙ ap not (eq-eqb (minus (minus timersNext 0) (minus timersNow due)) 0 none)

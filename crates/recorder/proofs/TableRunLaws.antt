@@ -8,7 +8,7 @@ use native.Mathlib.Omega.{arith}
 use lib.Dec.{T, eqb}
 use lib.ListN.{length, getD}
 use Rattle.sets.specs.Sets.{has, meet, minus, setOf, those, members, size, someIn}
-use Rattle.sets.proofs.Tests.{is-true, of-true}
+use Rattle.sets.proofs.Tests.{is-true}
 use Rattle.sets.proofs.Facts.{has-lt}
 use Rattle.sets.proofs.Membership.{has-meet}
 use Rattle.rows.specs.Over.{over}
@@ -73,6 +73,14 @@ module _ (w : List ℕ) (h : T (tableOk w)) (q : State) (ok : tableStateOk w q �
           let r = start-within (timersIn w (q .at)) (delayIn w) q (admitted w h q ok .1) t (has-lt 64 (timersIn w (q .at)) t (rw be at fits) m) m in
           (omega (arith, r .0), omega (arith, r .1, delay-lt w h t))
 
+-- the deadline v of a timer with a reading f left after a tick, started in it or not, and running before it or not
+deadline-left : (i : ℕ) (started on : Bool) {v f r e d : ℕ} → v ≡ cond started (i + 1 + d) e → f ≡ cond started d (r - 1) → 0 < f
+    → r ≡ cond on (e - i) 0 → d < 65536 → (T on → e ≤ i + 65535)
+    → (i + 1 < v) × (v ≤ i + 1 + 65535) × (v - (i + 1) ≡ cond started d (r - 1))
+deadline-left i true on v f l r d far = (omega arith, omega arith, omega arith)
+deadline-left i false true v f l r d far = (omega arith, omega (arith, far tt), omega arith)
+deadline-left i false false v f l r d far = absurd (omega arith)
+
 module _ {w inputs out₀ : List ℕ} {q₀ : State} {out ends : List ℕ} {b i : ℕ} (k : ReachedBlock w inputs out₀ q₀ out ends b i) where
   abbrev now : State
   now = stateAt w b ends i
@@ -104,21 +112,8 @@ module _ {w inputs out₀ : List ℕ} {q₀ : State} {out ends : List ℕ} {b i 
         → (i + 1 < getD ends′ t 0) × (getD ends′ t 0 ≤ i + 1 + 65535)
         × (getD ends′ t 0 - (i + 1) ≡ cond (has (cellWord w b c 1) (sourceIn w t)) (delayIn w t) (reading (now .readings) t - 1))
     after t l m =
-        go (has (cellWord w b c 1) (sourceIn w t)) (has (timersIn w b) t) refl (e t l m)
-        (sym (reading-after w (k .sound) now c n t l m)) (reading-left w (k .sound) now c n t l m s)
-      where
-        go : (a d : Bool) → has (timersIn w b) t ≡ d
-            → getD ends′ t 0 ≡ cond a (i + 1 + delayIn w t) (getD ends t 0)
-            → cond a (delayIn w t) (reading (now .readings) t - 1) ≡ reading (stateAfterCell w now c .readings) t
-            → 0 < reading (stateAfterCell w now c .readings) t
-            → (i + 1 < getD ends′ t 0) × (getD ends′ t 0 ≤ i + 1 + 65535) × (getD ends′ t 0 - (i + 1) ≡ cond a (delayIn w t) (reading (now .readings) t - 1))
-        go true d g v r f =
-            (omega (arith, delay-pos w (k .sound) next n t m l), omega (arith, delay-lt w (k .sound) t), omega arith)
-        go false true g v r f =
-            let at : reading (now .readings) t ≡ getD ends t 0 - i = reading-now t l ∙ ap (λ (a : Bool). cond a (getD ends t 0 - i) 0) g in
-            let far = k .timed .ahead t (of-true g) .1 in
-            (omega arith, omega arith, omega arith)
-        go false false g v r f = absurd (omega (arith, idle t l g))
+        deadline-left i (has (cellWord w b c 1) (sourceIn w t)) (has (timersIn w b) t) (e t l m) (reading-after w (k .sound) now c n t l m)
+        (reading-left w (k .sound) now c n t l m s) (reading-now t l) (delay-lt w (k .sound) t) (λ g. k .timed .ahead t g .1)
 
     next-state : stateAt w next ends′ (i + 1) ≡ stateAfterCell w now c
     unfolding stateAfterCell
@@ -226,9 +221,10 @@ module _ {w inputs out₀ : List ℕ} {q₀ : State} {out ends : List ℕ} {b i 
         → ReachedBlock w inputs out₀ q₀ out′ ends′ b′ (i + 1)
     turn-stays g dz ez oe ee be =
         let same : nextBlock ≡ b = sym next-is ∙ g in
+        let fits : nextTimers < 2 ^ 64 = rw same (k .fits) in
         rw (oe, five-is, ee, be)
         (subst (λ (x : ℕ). ReachedBlock w inputs out₀ q₀ (over out (5 * i) (rowFrom 1 5 (cellWord w b c))) ends x (i + 1)) same
-        (turn (stays w h q c low (idle k) d due-is (ap (timersIn w) same) dz none) ends (k .timed .long) (subst (λ (x : ℕ). timersIn w x < 2 ^ 64) (sym same) (k .fits))
+        (turn (stays w h q c low (idle k) d due-is fits (ap (timersIn w) same) dz none) ends (k .timed .long) fits
         (λ t u m. ap (λ (a : Bool). cond a (i + 1 + delayIn w t) (getD ends t 0)) (sym (none t u m)))))
       where
         none : (t : ℕ) → t < 64 → T (has nextTimers t) → has entered (sourceIn w t) ≡ false
