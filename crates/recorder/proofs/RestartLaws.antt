@@ -5,13 +5,13 @@ use mathlib.Core.List.{List}
 use Prim.Native.Nat.{ℕ, _-_, _^_, _<_}
 use native.Mathlib.Nat.{pos-of-ne-zero, lt-of-lt-of-le, lt-of-le-of-lt, pow-le-pow-right}
 use native.Mathlib.Omega.{arith}
-use lib.Dec.{T, eqb, ltb, eqb→eq, lt→ltb, eqb-refl}
+use lib.Dec.{T, eqb, ltb, eqb→eq}
 use lib.Bits.{and-self}
 use lib.ListN.{getD}
-use borrow.Author.Tests.{eq-eqb, ne-eqb}
+use borrow.Author.Tests.{eq-eqb, ne-eqb, lt-ltb}
 use Rattle.sets.specs.Sets.{has, meet, minus, setOf, those, someIn}
-use Rattle.sets.proofs.Tests.{is-true, is-false, of-true, of-false, and-r, and-i, bool-ext}
-use Rattle.sets.proofs.Facts.{setOf-e, setOf-i, those-e, those-i, someIn-e, someIn-i}
+use Rattle.sets.proofs.Tests.{is-true, is-false, of-true, of-false, bool-ext}
+use Rattle.sets.proofs.Facts.{setOf-i, those-e, those-i, someIn-e, someIn-i}
 use Rattle.sets.proofs.Membership.{has-none, has-meet, has-minus, has-setOf, has-those, setOf-lt, those-lt, minus-le, ext}
 use Rattle.sets.proofs.Members.{empty}
 use Rattle.meaning.specs.Lists.{rowFrom}
@@ -69,19 +69,14 @@ module _ (w : List ℕ) (h : T (tableOk w)) where
         small : sourceIn w t < 32
         small = source-lt w h t l p
 
-        from-source : T (has (getD from (sourceIn w t) 0) t)
+        -- it stands with its source alone
+        from-has : (m : ℕ) → m < 32 → has (getD from m 0) t ≡ eqb (sourceIn w t) m
         unfolding timersFrom timersBelow
-        from-source =
-            subst (λ (x : ℕ). T (has x t)) (sym (from-at (sourceIn w t) small))
-            (setOf-i (tIn w) (λ u. ltb 0 (delayIn w u) && eqb (sourceIn w u) (sourceIn w t)) t l
-            (and-i (ltb 0 (delayIn w t)) (eqb (sourceIn w t) (sourceIn w t)) (lt→ltb 0 (delayIn w t) p) (eqb-refl (sourceIn w t))))
+        from-has m k =
+            rw (from-at m k, has-setOf (tIn w) (λ u. ltb 0 (delayIn w u) && eqb (sourceIn w u) m) t l, lt-ltb 0 (delayIn w t) p)
 
-        from-one : (m : ℕ) → m < 32 → T (has (getD from m 0) t) → sourceIn w t ≡ m
-        unfolding timersFrom timersBelow
-        from-one m k g =
-            let q : ℕ → Bool = λ u. ltb 0 (delayIn w u) && eqb (sourceIn w u) m in
-            eqb→eq (sourceIn w t) m
-            (and-r (ltb 0 (delayIn w t)) (eqb (sourceIn w t) m) (setOf-e (tIn w) q t (subst (λ (x : ℕ). T (has x t)) (from-at m k) g) .1))
+        from-source : T (has (getD from (sourceIn w t) 0) t)
+        from-source = of-true (from-has (sourceIn w t) small ∙ eq-eqb (sourceIn w t) (sourceIn w t) refl)
 
         source-timed : T (has timed (sourceIn w t))
         source-timed =
@@ -97,7 +92,7 @@ module _ (w : List ℕ) (h : T (tableOk w)) where
             ∙ bool-ext (someIn 32 (meet entered timed) (λ m. has (getD from m 0) t)) (has entered (sourceIn w t))
             (λ g.
             let r = someIn-e 32 (meet entered timed) (λ m. has (getD from m 0) t) g in
-            let e : r .0 ≡ sourceIn w t = sym (from-one (r .0) (r .1) (r .3)) in
+            let e : r .0 ≡ sourceIn w t = sym (eqb→eq (sourceIn w t) (r .0) (subst T (from-has (r .0) (r .1)) (r .3))) in
             subst T (ap (has (meet entered timed)) e ∙ entered-timed) (r .2))
             (λ g. someIn-i 32 (meet entered timed) (λ m. has (getD from m 0) t) (sourceIn w t) small (subst T (sym entered-timed) g) from-source)
 
@@ -138,9 +133,7 @@ module _ (w : List ℕ) (h : T (tableOk w)) where
       lowered t k = go (has timersNow t) refl
         where
           go : (b : Bool) → has timersNow t ≡ b → eqb (reading (q .readings) t - 1) 0 ≡ not (b && not (has due t))
-          go true e =
-              sym (Bool·not-not (eqb (reading (q .readings) t - 1) 0))
-              ∙ ap (λ (b : Bool). not (not b)) (sym (ap (λ (x : ℕ). has x t) de ∙ due-at timersNow (q .readings) t k ∙ ap (λ (b : Bool). b && eqb (reading (q .readings) t - 1) 0) e))
+          go true e = rw (de, due-at timersNow (q .readings) t k, e) (sym (Bool·not-not (eqb (reading (q .readings) t - 1) 0)))
           go false e = eq-eqb (reading (q .readings) t - 1) 0 (omega (arith, idle t k e))
 
       -- a next timer has no reading left just if it was not entered, and did not run or is due

@@ -1,6 +1,6 @@
 -- The table run by deadlines: what is left from here, in a block by the deadlines now, gives what all gives from the start. Assumes nothing.
 use mathlib.Core.Path.{_≡_, refl, sym, ap, ap₂, _∙_, subst}
-use mathlib.Core.Bool.{Bool, true, false, not, _&&_, cond}
+use mathlib.Core.Bool.{Bool, true, false, not, cond}
 use mathlib.Core.List.{List}
 use Prim.Native.Nat.{ℕ, _+_, _-_, _*_, _/_, _^_, _≤_, _<_}
 use native.Mathlib.Nat.{add-zero, pow-le-pow-right, lt-of-lt-of-le}
@@ -162,10 +162,7 @@ module _ {w inputs out₀ : List ℕ} {q₀ : State} {out ends : List ℕ} {b i 
 
   place-is : cell ≡ offsetIn w b + 3 + 6 * c
   unfolding cellOf
-  place-is =
-      p .place
-      ∙ ap (λ (x : ℕ). offsetIn w b + 3 + 6 * (x * 2 ^ kIn w + input))
-      (p .number ∙ ap₂ (λ (x y : ℕ). dueNumber (members 64 x) y) (p .running) due-is)
+  place-is = p .place ∙ rw (p .number, p .running, due-is)
 
   there : c < cellsIn w b
   there = cell-lt w q input (input-below (kIn w) input (p .below))
@@ -243,15 +240,11 @@ module _ {w inputs out₀ : List ℕ} {q₀ : State} {out ends : List ℕ} {b i 
       again-there : (t : ℕ) → t < 64 → T (has nextTimers t) → has again t ≡ has entered (sourceIn w t)
       again-there t u m =
           let s = setOf 64 (λ u. someIn 32 (meet (getD w (cell + 1) 0) timed) (λ m. has (getD from m 0) u)) in
-          ap (λ (x : ℕ). has x t) ae ∙ has-meet later s t
-          ∙ ap (λ (a : Bool). a && has s t) (ap (λ (x : ℕ). has x t) next-timers ∙ is-true (has nextTimers t) m)
-          ∙ started-there w h from timed (v .timersAre) (v .sourcesAre) (getD w (cell + 1) 0) t (timer-lt w h nextBlock low t m u) (delay-pos w h nextBlock low t m u)
-          ∙ ap (λ (x : ℕ). has x (sourceIn w t)) entered-is
+          rw (ae, has-meet later s t, next-timers, is-true (has nextTimers t) m, entered-is)
+          (started-there w h from timed (v .timersAre) (v .sourcesAre) entered t (timer-lt w h nextBlock low t m u) (delay-pos w h nextBlock low t m u))
 
       stale-now : isStale w (stateAfterCell w q c) ≡ not (eqb (minus (minus later again) (minus timers d)) 0)
-      stale-now =
-          stale-is w h q c low (idle k) d due-is again next-fits again-there
-          ∙ ap₂ (λ (x y : ℕ). not (eqb (minus (minus x again) (minus y d)) 0)) (sym next-timers) (sym (p .running))
+      stale-now = rw (next-timers, p .running) (stale-is w h q c low (idle k) d due-is again next-fits again-there)
 
       pub ends-stale : not (eqb (minus (minus later again) (minus timers d)) 0) ≡ true → endedRun ends b timers i 0 15 out ≡ ran out₀ (tableTicks w inputs q₀)
       ends-stale g =

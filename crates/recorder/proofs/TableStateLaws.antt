@@ -34,22 +34,15 @@ module _ (w : List ℕ) (h : T (tableOk w)) (q : State) where
 
   module _ (l : q .at < bIn w) where
     -- in block 0 no timer runs
-    fresh-ok : q .at ≡ 0 → readingsOk timers (delayIn w) readings ≡ tableStateOk w q
-    unfolding tableStateOk isFresh reading
-    fresh-ok e =
-        readings-none timers (delayIn w) readings (ap (timersIn w) e ∙ timers-first w h)
-        ∙ rw e (sym (or-false (every 64 (λ t. eqb (getD readings t 0) 0))))
-
-    later-ok : (q .at ≡ 0 → ⊥) → readingsOk timers (delayIn w) readings ≡ tableStateOk w q
-    unfolding tableStateOk isFresh
-    later-ok n = rw (ne-eqb (q .at) 0 n, lt-ltb 0 (q .at) (omega arith), lt-ltb (q .at) (bIn w) l)
-
     readings-decide : readingsOk timers (delayIn w) readings ≡ tableStateOk w q
+    unfolding tableStateOk isFresh reading
     readings-decide = go (ℕ-discrete (q .at) 0)
       where
         go : Dec (q .at ≡ 0) → readingsOk timers (delayIn w) readings ≡ tableStateOk w q
-        go (yes e) = fresh-ok e
-        go (no n) = later-ok n
+        go (yes e) =
+            readings-none timers (delayIn w) readings (ap (timersIn w) e ∙ timers-first w h)
+            ∙ rw e (sym (or-false (every 64 (λ t. eqb (getD readings t 0) 0))))
+        go (no n) = rw (ne-eqb (q .at) 0 n, lt-ltb 0 (q .at) (omega arith), lt-ltb (q .at) (bIn w) l)
 
     -- the delays of a block's timers stand among the delays
     pub state-inside : readingsOk timers (λ t. getD (rowFrom 0 64 (timerDelayIn w)) t 0) readings ≡ tableStateOk w q

@@ -27,9 +27,7 @@ stateFrom at timers ends i = record { at = at; readings = readingsFrom timers en
 
 module _ (timers : ℕ) (ends : List ℕ) (i : ℕ) where
   pub reading-from : (t : ℕ) → t < 64 → T (has timers t) → getD (readingsFrom timers ends i) t 0 ≡ getD ends t 0 - i
-  reading-from t l h =
-      let f : ℕ → ℕ = λ u. cond (has timers u) (getD ends u 0 - i) 0 in
-      row-at 64 f t l ∙ ap (λ (b : Bool). cond b (getD ends t 0 - i) 0) (is-true (has timers t) h)
+  reading-from t l h = rw (row-at 64 (λ u. cond (has timers u) (getD ends u 0 - i) 0) t l, is-true (has timers t) h)
 
   -- a timer is due in the tick of its deadline
   pub due-deadlines : ((t : ℕ) → t < 64 → T (has timers t) → i < getD ends t 0)

@@ -1,6 +1,6 @@
 -- The loop that finds the due timers of a set: the set built so far, and the number that it makes. Assumes nothing.
 use mathlib.Core.Path.{_≡_, refl, sym, ap, ap₂, _∙_, subst}
-use mathlib.Core.Bool.{Bool, true, false, _&&_}
+use mathlib.Core.Bool.{Bool, true, false}
 use mathlib.Core.List.{List}
 use Prim.Native.Nat.{ℕ, suc, _+_, _*_, _^_, _≤_, _<_}
 use native.Mathlib.Nat.{add-zero, zero-add, zero-mul, one-mul, mul-add, mul-one, mul-assoc, mul-zero, pow-suc, pow-le-pow-right, lt-of-lt-of-le}
@@ -60,9 +60,7 @@ module _ (timers : ℕ) (p : ℕ → Bool) where
     place-small = omega (arith, c .room, size-turn)
 
     due-there : has all t ≡ p t
-    due-there =
-        has-those 64 timers p t (u .lowest .small)
-        ∙ ap (λ (b : Bool). b && p t) (is-true (has timers t) (c .part t (of-true (u .lowest .member))))
+    due-there = rw (has-those 64 timers p t (u .lowest .small), is-true (has timers t) (c .part t (of-true (u .lowest .member))))
 
     number-turn : dueNumber (members 64 rest) all ≡ digit (has all t) + 2 * dueNumber (members 64 rest′) all
     unfolding dueNumber

@@ -1,8 +1,8 @@
 -- The sheet run by deadlines: what is left from here, in a mode set by the deadlines now, gives what all gives from the start.
 -- Assumes nothing.
-use mathlib.Core.Path.{_≡_, refl, sym, ap, ap₂, _∙_, subst}
+use mathlib.Core.Path.{_≡_, refl, sym, ap, _∙_, subst}
 use mathlib.Core.Logic.{_⊎_, inl, inr}
-use mathlib.Core.Bool.{Bool, true, false, _&&_, cond, and-true}
+use mathlib.Core.Bool.{Bool, true, false, cond, and-true}
 use mathlib.Core.List.{List}
 use Prim.Native.Nat.{ℕ, _+_, _-_, _*_, _/_, _^_, _≤_, _<_, zero-le}
 use native.Mathlib.Nat.{lt-of-lt-of-le}
@@ -110,9 +110,7 @@ module _ {s inputs out₀ : List ℕ} {q₀ : State} {out ends : List ℕ} {x li
       on = running-e s (z .modes) t h
 
       starts : has set t ≡ has (z .entered) (source s t)
-      starts =
-          ap (λ (y : ℕ). has y t) se ∙ has-meet (sourcesIn s (z .entered)) (running s (z .modes)) t
-          ∙ ap₂ _&&_ (has-sourcesIn s (z .entered) t (on .small)) (is-true (has (running s (z .modes)) t) h) ∙ and-true (has (z .entered) (source s t))
+      starts = rw (se, has-meet, has-sourcesIn s (z .entered) t (on .small), is-true (has (running s (z .modes)) t) h, and-true)
 
       -- a timer that runs and was not entered ran before
       ran-before : has (z .entered) (source s t) ≡ false → T (has (running s x) t)
