@@ -31,19 +31,15 @@ has-some s i h = subst (λ (b : Bool). T (not b)) (sym (ne-eqb s 0 (λ e. of-fal
 
 -- some member of s has p just if the members with p are not none
 some-those : (w s : ℕ) (p : ℕ → Bool) → someIn w s p ≡ not (eqb (those w s p) 0)
-some-those w s p = bool-ext (someIn w s p) (not (eqb (those w s p) 0)) forth (back (someIn w s p) refl)
+some-those w s p = go (someIn w s p) refl
   where
-    forth : T (someIn w s p) → T (not (eqb (those w s p) 0))
-    forth h = let r = someIn-e w s p h in has-some (those w s p) (r .0) (those-i w s p (r .0) (r .1) (r .2) (r .3))
-
-    none : someIn w s p ≡ false → those w s p ≡ 0
-    none e =
-        empty w (those-lt w s p) (λ i l.
-        is-false (has (those w s p) i) (λ h. let r = those-e w s p i h in of-false e (someIn-i w s p i l (r .1) (r .2))))
-
-    back : (b : Bool) → someIn w s p ≡ b → T (not (eqb (those w s p) 0)) → T b
-    back true e h = tt
-    back false e h = subst (λ (b : Bool). T (not b)) (eq-eqb (those w s p) 0 (none e)) h
+    go : (b : Bool) → someIn w s p ≡ b → b ≡ not (eqb (those w s p) 0)
+    go true e =
+        let r = someIn-e w s p (of-true e) in
+        sym (is-true (not (eqb (those w s p) 0)) (has-some (those w s p) (r .0) (those-i w s p (r .0) (r .1) (r .2) (r .3))))
+    go false e =
+        sym (ap not (eq-eqb (those w s p) 0 (empty w (those-lt w s p) (λ i l.
+        is-false (has (those w s p) i) (λ h. let r = those-e w s p i h in of-false e (someIn-i w s p i l (r .1) (r .2)))))))
 
 module _ (w : List ℕ) (h : T (tableOk w)) where
   -- ---- the timers of the sources in a set

@@ -189,10 +189,6 @@ module _ {w inputs out₀ : List ℕ} {q₀ : State} {out ends : List ℕ} {b i 
   next-below = subst (λ (x : ℕ). x < bIn w) (sym next-is) low
 
   -- the tick of the definition: refused 15, or done
-  refused : isStale w (stateAfterCell w q c) ≡ true → tableStep w q input .refusal ≡ 15
-  unfolding tableStep refusedIf
-  refused s = rw s refl
-
   turn : isStale w (stateAfterCell w q c) ≡ false → (ends′ : List ℕ) → length ends′ ≡ 64 → nextTimers < 2 ^ 64
       → ((t : ℕ) → t < 64 → T (has nextTimers t) → getD ends′ t 0 ≡ cond (has entered (sourceIn w t)) (i + 1 + delayIn w t) (getD ends t 0))
       → ReachedBlock w inputs out₀ q₀ (over out (5 * i) (rowFrom 1 5 (cellWord w b c))) ends′ nextBlock (i + 1)
@@ -247,8 +243,8 @@ module _ {w inputs out₀ : List ℕ} {q₀ : State} {out ends : List ℕ} {b i 
       stale-now = rw (next-timers, p .running) (stale-is w h q c low (idle k) d due-is again next-fits again-there)
 
       pub ends-stale : not (eqb (minus (minus later again) (minus timers d)) 0) ≡ true → endedRun ends b timers i 0 15 out ≡ ran out₀ (tableTicks w inputs q₀)
-      ends-stale g =
-          ends-refused (k .timed) (p .running) (p .more) (p .below) (refused (stale-now ∙ g)) (λ z. omega arith)
+      unfolding tableStep refusedIf
+      ends-stale g = ends-refused (k .timed) (p .running) (p .more) (p .below) (rw (stale-now ∙ g)) (λ z. omega arith)
 
       pub turn-moves : not (eqb (minus (minus later again) (minus timers d)) 0) ≡ false
           → {out′ ends′ : List ℕ} → out′ ≡ over out (5 * i) (fiveIn w cell)

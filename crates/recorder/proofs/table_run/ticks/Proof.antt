@@ -92,13 +92,10 @@ not-past c = later (c .loop .inv .1 .timed) (c .loop .inv .2 .1)
 abbrev first : tie.At-loop Inv-loop μ-loop → State
 first c = stateAt (start c .args .table .now) (c .before .block-at .result .number) (made c .deadlines .result) 0
 
-long : (c : tie.After-deadlines Inv-loop μ-loop) → length (c .deadlines .result) ≡ 64
-long c = search needs
-
 from-start : (c : tie.At-loop Inv-loop μ-loop) → first c ≡ stateOf (start c .args .start)
 from-start c =
     let s = start c in
-    start-state _ (of-true (s .pre .0)) (stateOf (s .args .start)) (s .pre .2) (c .before .block-at .ensures .0) (made c .deadlines .ensures) (long (made c))
+    start-state _ (of-true (s .pre .0)) (stateOf (s .args .start)) (s .pre .2) (c .before .block-at .ensures .0) (made c .deadlines .ensures) (search needs)
 
 -- the cell, by the due timers and the input set
 chosen : (c : tie.After-cell-number Inv-loop μ-loop)
@@ -164,7 +161,7 @@ loop-holds c =
         sourcesAre = on .before .before .sources .ensures;
       },
       start-block _ (of-true (s .pre .0)) (stateOf (s .args .start)) (s .pre .2)
-          (b .ensures .0) (on .deadlines .ensures) (long on) (omega (arith, b .ok, b .ensures .1 .1)) (s .pre .3),
+          (b .ensures .0) (on .deadlines .ensures) (search needs) (omega (arith, b .ok, b .ensures .1 .1)) (s .pre .3),
       b .ensures .1,
     )
 

@@ -95,12 +95,9 @@ not-past : (c : tie.At-loop Inv-loop μ-loop) (t : ℕ)
 not-past c = later (c .loop .inv .0 .timed) (runs c)
 
 -- the state by the deadlines at the start is the start
-long : (c : tie.After-deadlines Inv-loop μ-loop) → length (c .deadlines .result) ≡ 64
-long c = search needs
-
 from-start : (c : tie.At-loop Inv-loop μ-loop)
     → let a = start c .args in stateAt (a .sheet .now) (a .start .at) (dates c .deadlines .result) 0 ≡ stateOf (a .start)
-from-start c = start-state _ (sheet-sound c) (stateOf (start c .args .start)) (start c .pre .2) (dates c .deadlines .ensures) (long (dates c))
+from-start c = start-state _ (sheet-sound c) (stateOf (start c .args .start)) (start c .pre .2) (dates c .deadlines .ensures) (search needs)
 
 -- the input set has no bit at k or above
 input-ok : (c : tie.Else1 Inv-loop μ-loop)
@@ -129,7 +126,7 @@ loop-holds c =
     let s = begun (c .before) in
     let a = s .args in (
       start-modes (a .sheet .now) (sound _ (s .pre .0 .passes)) (stateOf (a .start)) (s .pre .2)
-          (c .before .deadlines .ensures) (long (c .before)) (c .from-set .ensures) (s .pre .3),
+          (c .before .deadlines .ensures) (search needs) (c .from-set .ensures) (s .pre .3),
       omega arith,
     )
 
