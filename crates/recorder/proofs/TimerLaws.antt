@@ -31,15 +31,10 @@ module _ (w : List ℕ) where
 
   pub delays-turn : (t : ℕ) {r : List ℕ} {v : ℕ} → r ≡ rowFrom 0 64 (delaysBelow t) → v ≡ delayIn w t → set r t v ≡ rowFrom 0 64 (delaysBelow (t + 1))
   delays-turn t e k =
-      ap₂ (λ (l : List ℕ) (x : ℕ). set l t x) e (k ∙ sym here) ∙ row-set 64 (delaysBelow t) (delaysBelow (t + 1)) t (λ j l n. other j n)
-    where
-      here : delaysBelow (t + 1) t ≡ delayIn w t
-      here = rw (lt-ltb t (t + 1) (omega arith))
-
-      other : (j : ℕ) → (j ≡ t → ⊥) → delaysBelow t j ≡ delaysBelow (t + 1) j
-      other j n =
-          ap (λ (b : Bool). cond b (delayIn w j) 0)
-          (bool-ext (ltb j t) (ltb j (t + 1)) (λ h. lt→ltb j (t + 1) (omega (arith, ltb→lt j t h))) (λ h. lt→ltb j t (omega (arith, ltb→lt j (t + 1) h))))
+      ap₂ (λ (l : List ℕ) (x : ℕ). set l t x) e (k ∙ rw (lt-ltb t (t + 1) (omega arith)))
+      ∙ row-set 64 (delaysBelow t) (delaysBelow (t + 1)) t (λ j l n.
+      ap (λ (b : Bool). cond b (delayIn w j) 0)
+      (bool-ext (ltb j t) (ltb j (t + 1)) (λ h. lt→ltb j (t + 1) (omega (arith, ltb→lt j t h))) (λ h. lt→ltb j t (omega (arith, ltb→lt j (t + 1) h)))))
 
   -- the delay of a timer stands among them
   pub delay-at : (t : ℕ) → t < 64 → t < tIn w → getD (rowFrom 0 64 (timerDelayIn w)) t 0 ≡ delayIn w t

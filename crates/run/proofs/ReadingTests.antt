@@ -1,5 +1,5 @@
 -- Readings tested one by one. Assumes nothing.
-use mathlib.Core.Path.{_≡_, refl}
+use mathlib.Core.Path.{_≡_}
 use mathlib.Core.Bool.{Bool, true, _&&_, cond}
 use mathlib.Core.List.{List}
 use Prim.Native.Nat.{ℕ, _<_}
@@ -16,10 +16,6 @@ use Rattle.meaning.specs.Run.{reading, readingsOk}
 abbrev pub readingFits : ℕ → (ℕ → ℕ) → List ℕ → ℕ → Bool
 readingFits timers delayOf readings t =
     cond (has timers t) (leb 1 (getD readings t 0) && leb (getD readings t 0) (delayOf t)) (eqb (getD readings t 0) 0)
-
-pub readings-ok-def : (timers : ℕ) (delayOf : ℕ → ℕ) (readings : List ℕ) → readingsOk timers delayOf readings ≡ every 64 (readingFits timers delayOf readings)
-unfolding readingsOk reading
-readings-ok-def timers delayOf readings = refl
 
 module _ (timers : ℕ) (delayOf : ℕ → ℕ) (readings : List ℕ) where
   pub readings-sound : readingsOk timers delayOf readings ≡ true → (t : ℕ) → t < 64 → T (readingFits timers delayOf readings t)

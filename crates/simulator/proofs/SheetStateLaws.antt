@@ -40,10 +40,6 @@ module _ (s : List ℕ) (q : State) where
       readings-none timers (delay s) readings (ap (running s) e ∙ running-none s)
       ∙ rw (e, has-none 0, and-false (ltb 0 (2 ^ nOf s))) (sym (or-false (every 64 (λ t. eqb (getD readings t 0) 0))))
 
-  consistent-ok : (q .at ≡ 0 → ⊥) → consistent s (q .at) ≡ true → readingsOk timers (delay s) readings ≡ stateOk s q
-  unfolding stateOk isFresh
-  consistent-ok n e = rw (ne-eqb (q .at) 0 n, e)
-
   -- the delays of the running timers stand among the delays
   module _ {delays : List ℕ} (d : delays ≡ rowFrom 0 64 (timerDelay s)) where
     serve : readingsOk timers (λ t. getD delays t 0) readings ≡ readingsOk timers (delay s) readings
@@ -53,7 +49,8 @@ module _ (s : List ℕ) (q : State) where
     state-fresh e = serve ∙ fresh-ok e
 
     pub state-consistent : (q .at ≡ 0 → ⊥) → consistent s (q .at) ≡ true → readingsOk timers (λ t. getD delays t 0) readings ≡ stateOk s q
-    state-consistent n e = serve ∙ consistent-ok n e
+    unfolding stateOk isFresh
+    state-consistent n e = serve ∙ rw (ne-eqb (q .at) 0 n, e)
 
   -- of a state that is not refused the readings are sound
   pub admitted : stateOk s q ≡ true → (t : ℕ) → t < 64 → T (readingFits timers (delay s) readings t)
