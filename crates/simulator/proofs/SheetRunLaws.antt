@@ -199,11 +199,10 @@ module _ {s inputs out₀ : List ℕ} {q₀ : State} {out ends : List ℕ} {x li
 -- ---- the whole run: at most T rounds for each done tick
 
 module _ (s inputs out : List ℕ) (q : State) where
-  run-few : sheetRun s q inputs out .rounds ≤ tOf s * sheetRun s q inputs out .done
-  unfolding sheetRun ran stops RunRounds
-  run-few =
-      run-all (kOf s) (sheetStep s) (sheetRefusal s) (stateOk s q) q inputs out (λ r. r .rounds ≤ tOf s * r .done) (λ e. zero-le) (run-rounds s inputs q)
-
   pub answered : {r : Run} {low : ℕ} → r ≡ sheetRun s q inputs out → low < 2 ^ 32
       → (r ≡ sheetRun s q inputs out) × (r .rounds ≤ tOf s * r .done) × (low < 2 ^ 32)
-  answered e l = (e, rw e run-few, l)
+  unfolding sheetRun ran stops RunRounds
+  answered e l =
+      let few =
+      run-all (kOf s) (sheetStep s) (sheetRefusal s) (stateOk s q) q inputs out (λ r. r .rounds ≤ tOf s * r .done) (λ e. zero-le) (run-rounds s inputs q) in
+      (e, rw e few, l)
