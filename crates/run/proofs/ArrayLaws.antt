@@ -19,6 +19,7 @@ use Rattle.meaning.proofs.ListLaws.{row-at, rowFrom-ext, rowFrom-length, rowFro
 pub row-of : (r : List ℕ) (n : ℕ) (f : ℕ → ℕ) → length r ≡ n → ((j : ℕ) → j < n → getD r j 0 ≡ f j) → r ≡ rowFrom 0 n f
 row-of r n f l e = rw l at (rowFrom-getD r 0) ∙ rowFrom-ext (λ j. getD r j 0) f 0 n (λ j a b. e j (omega arith))
 
+-- a row of zeros
 pub row-zeros : (n : ℕ) (f : ℕ → ℕ) → ((j : ℕ) → j < n → f j ≡ 0) → replicate n 0 ≡ rowFrom 0 n f
 row-zeros n f e = row-of (replicate n 0) n f (length-replicate n 0) (λ j k. getD-replicate n j 0 0 k ∙ sym (e j k))
 

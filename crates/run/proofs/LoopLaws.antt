@@ -131,6 +131,7 @@ pub record Timed (k : ℕ) (step : State → ℕ → Step) (inputs out₀ : List
 -- with the timers as the code has them
 module _ {k : ℕ} {step : State → ℕ → Step} {inputs out₀ : List ℕ} {q₀ : State} {out ends : List ℕ} {at timers total i : ℕ}
     (r : Timed k step inputs out₀ q₀ out ends at timers total i) {now : ℕ} (te : now ≡ timers) where
+  -- no deadline of theirs is past
   pub later : (t : ℕ) → has now t ≡ true → i ≤ getD ends t 0
   later t e = le-of-lt (r .ahead t (of-true (rw te at e)) .0)
 
