@@ -1,4 +1,3 @@
-pub mod RowStoreLaws
 pub mod TimerLaws
 pub mod TableStateLaws
 pub mod BlockPlaceLaws

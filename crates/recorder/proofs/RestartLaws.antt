@@ -5,12 +5,13 @@ use mathlib.Core.List.{List}
 use Prim.Native.Nat.{ℕ, _-_, _^_, _<_}
 use native.Mathlib.Nat.{pos-of-ne-zero, lt-of-lt-of-le, lt-of-le-of-lt, pow-le-pow-right}
 use native.Mathlib.Omega.{arith}
-use lib.Dec.{T, eqb, ltb, eqb→eq, lt→ltb, eqb-refl}
+use lib.Dec.{T, eqb, ltb, eqb→eq}
+use lib.Bits.{and-self}
 use lib.ListN.{getD}
-use borrow.Author.Tests.{eq-eqb, ne-eqb}
+use borrow.Author.Tests.{eq-eqb, ne-eqb, lt-ltb}
 use Rattle.sets.specs.Sets.{has, meet, minus, setOf, those, someIn}
-use Rattle.sets.proofs.Tests.{is-true, is-false, of-true, of-false, and-r, and-i, bool-ext}
-use Rattle.sets.proofs.Facts.{setOf-e, setOf-i, those-e, those-i, someIn-e, someIn-i}
+use Rattle.sets.proofs.Tests.{is-true, is-false, of-true, of-false, bool-ext}
+use Rattle.sets.proofs.Facts.{setOf-i, those-e, those-i, someIn-e, someIn-i}
 use Rattle.sets.proofs.Membership.{has-none, has-meet, has-minus, has-setOf, has-those, setOf-lt, those-lt, minus-le, ext}
 use Rattle.sets.proofs.Members.{empty}
 use Rattle.meaning.specs.Lists.{rowFrom}
@@ -30,19 +31,15 @@ has-some s i h = subst (λ (b : Bool). T (not b)) (sym (ne-eqb s 0 (λ e. of-fal
 
 -- some member of s has p just if the members with p are not none
 some-those : (w s : ℕ) (p : ℕ → Bool) → someIn w s p ≡ not (eqb (those w s p) 0)
-some-those w s p = bool-ext (someIn w s p) (not (eqb (those w s p) 0)) forth (back (someIn w s p) refl)
+some-those w s p = go (someIn w s p) refl
   where
-    forth : T (someIn w s p) → T (not (eqb (those w s p) 0))
-    forth h = let r = someIn-e w s p h in has-some (those w s p) (r .0) (those-i w s p (r .0) (r .1) (r .2) (r .3))
-
-    none : someIn w s p ≡ false → those w s p ≡ 0
-    none e =
-        empty w (those-lt w s p) (λ i l.
-        is-false (has (those w s p) i) (λ h. let r = those-e w s p i h in of-false e (someIn-i w s p i l (r .1) (r .2))))
-
-    back : (b : Bool) → someIn w s p ≡ b → T (not (eqb (those w s p) 0)) → T b
-    back true e h = tt
-    back false e h = subst (λ (b : Bool). T (not b)) (eq-eqb (those w s p) 0 (none e)) h
+    go : (b : Bool) → someIn w s p ≡ b → b ≡ not (eqb (those w s p) 0)
+    go true e =
+        let r = someIn-e w s p (of-true e) in
+        sym (is-true (not (eqb (those w s p) 0)) (has-some (those w s p) (r .0) (those-i w s p (r .0) (r .1) (r .2) (r .3))))
+    go false e =
+        sym (ap not (eq-eqb (those w s p) 0 (empty w (those-lt w s p) (λ i l.
+        is-false (has (those w s p) i) (λ h. let r = those-e w s p i h in of-false e (someIn-i w s p i l (r .1) (r .2)))))))
 
 module _ (w : List ℕ) (h : T (tableOk w)) where
   -- ---- the timers of the sources in a set
@@ -68,19 +65,14 @@ module _ (w : List ℕ) (h : T (tableOk w)) where
         small : sourceIn w t < 32
         small = source-lt w h t l p
 
-        from-source : T (has (getD from (sourceIn w t) 0) t)
+        -- it stands with its source alone
+        from-has : (m : ℕ) → m < 32 → has (getD from m 0) t ≡ eqb (sourceIn w t) m
         unfolding timersFrom timersBelow
-        from-source =
-            subst (λ (x : ℕ). T (has x t)) (sym (from-at (sourceIn w t) small))
-            (setOf-i (tIn w) (λ u. ltb 0 (delayIn w u) && eqb (sourceIn w u) (sourceIn w t)) t l
-            (and-i (ltb 0 (delayIn w t)) (eqb (sourceIn w t) (sourceIn w t)) (lt→ltb 0 (delayIn w t) p) (eqb-refl (sourceIn w t))))
+        from-has m k =
+            rw (from-at m k, has-setOf (tIn w) (λ u. ltb 0 (delayIn w u) && eqb (sourceIn w u) m) t l, lt-ltb 0 (delayIn w t) p)
 
-        from-one : (m : ℕ) → m < 32 → T (has (getD from m 0) t) → sourceIn w t ≡ m
-        unfolding timersFrom timersBelow
-        from-one m k g =
-            let q : ℕ → Bool = λ u. ltb 0 (delayIn w u) && eqb (sourceIn w u) m in
-            eqb→eq (sourceIn w t) m
-            (and-r (ltb 0 (delayIn w t)) (eqb (sourceIn w t) m) (setOf-e (tIn w) q t (subst (λ (x : ℕ). T (has x t)) (from-at m k) g) .1))
+        from-source : T (has (getD from (sourceIn w t) 0) t)
+        from-source = of-true (from-has (sourceIn w t) small ∙ eq-eqb (sourceIn w t) (sourceIn w t) refl)
 
         source-timed : T (has timed (sourceIn w t))
         source-timed =
@@ -96,7 +88,7 @@ module _ (w : List ℕ) (h : T (tableOk w)) where
             ∙ bool-ext (someIn 32 (meet entered timed) (λ m. has (getD from m 0) t)) (has entered (sourceIn w t))
             (λ g.
             let r = someIn-e 32 (meet entered timed) (λ m. has (getD from m 0) t) g in
-            let e : r .0 ≡ sourceIn w t = sym (from-one (r .0) (r .1) (r .3)) in
+            let e : r .0 ≡ sourceIn w t = sym (eqb→eq (sourceIn w t) (r .0) (subst T (from-has (r .0) (r .1)) (r .3))) in
             subst T (ap (has (meet entered timed)) e ∙ entered-timed) (r .2))
             (λ g. someIn-i 32 (meet entered timed) (λ m. has (getD from m 0) t) (sourceIn w t) small (subst T (sym entered-timed) g) from-source)
 
@@ -137,9 +129,7 @@ module _ (w : List ℕ) (h : T (tableOk w)) where
       lowered t k = go (has timersNow t) refl
         where
           go : (b : Bool) → has timersNow t ≡ b → eqb (reading (q .readings) t - 1) 0 ≡ not (b && not (has due t))
-          go true e =
-              sym (Bool·not-not (eqb (reading (q .readings) t - 1) 0))
-              ∙ ap (λ (b : Bool). not (not b)) (sym (ap (λ (x : ℕ). has x t) de ∙ due-at timersNow (q .readings) t k ∙ ap (λ (b : Bool). b && eqb (reading (q .readings) t - 1) 0) e))
+          go true e = rw (de, due-at timersNow (q .readings) t k, e) (sym (Bool·not-not (eqb (reading (q .readings) t - 1) 0)))
           go false e = eq-eqb (reading (q .readings) t - 1) 0 (omega (arith, idle t k e))
 
       -- a next timer has no reading left just if it was not entered, and did not run or is due
@@ -175,16 +165,9 @@ module _ (w : List ℕ) (h : T (tableOk w)) where
               ∙ sym (has-those 64 timersNext p t k))
 
       -- a tick with the same timers next, none due and no source entered is not refused
-      pub stays : timersNext ≡ timersNow → due ≡ 0 → ((t : ℕ) → t < 64 → T (has timersNext t) → has enteredNow (sourceIn w t) ≡ false)
-          → isStale w (stateAfterCell w q c) ≡ false
-      unfolding isStale stateAfterCell nextState
-      stays e z n = is-false (someIn 64 timersNext p) (λ g. let r = someIn-e 64 timersNext p g in of-false (left (r .0) (r .1) (r .2)) (r .3))
-        where
-          p : ℕ → Bool
-          p t = eqb (reading (stateAfterCell w q c .readings) t) 0
-
-          left : (t : ℕ) → t < 64 → T (has timersNext t) → p t ≡ false
-          left t k m =
-              let on : has timersNow t ≡ true = ap (λ (x : ℕ). has x t) (sym e) ∙ is-true (has timersNext t) m in
-              let off : has due t ≡ false = ap (λ (x : ℕ). has x t) z ∙ has-none t in
-              spent t k m ∙ rw (n t k m, on, off)
+      pub stays : timersNext < 2 ^ 64 → timersNext ≡ timersNow → due ≡ 0
+          → ((t : ℕ) → t < 64 → T (has timersNext t) → has enteredNow (sourceIn w t) ≡ false) → isStale w (stateAfterCell w q c) ≡ false
+      unfolding minus
+      stays small e z n =
+          let none : minus (minus timersNext 0) (minus timersNow due) ≡ 0 = rw (e, z) (omega (arith, and-self (minus timersNow 0))) in
+          stale-is 0 small (λ t k m. has-none t ∙ sym (n t k m)) ∙ ap not (eq-eqb (minus (minus timersNext 0) (minus timersNow due)) 0 none)

@@ -1,25 +1,25 @@
 -- The table run by deadlines: what is left from here, in a block by the deadlines now, gives what all gives from the start. Assumes nothing.
 use mathlib.Core.Path.{_≡_, refl, sym, ap, ap₂, _∙_, subst}
-use mathlib.Core.Bool.{Bool, true, false, not, _&&_, cond}
+use mathlib.Core.Bool.{Bool, true, false, not, cond}
 use mathlib.Core.List.{List}
 use Prim.Native.Nat.{ℕ, _+_, _-_, _*_, _/_, _^_, _≤_, _<_}
-use native.Mathlib.Nat.{add-zero, le-of-lt, pow-le-pow-right, lt-of-lt-of-le}
+use native.Mathlib.Nat.{add-zero, pow-le-pow-right, lt-of-lt-of-le}
 use native.Mathlib.Omega.{arith}
 use lib.Dec.{T, eqb}
 use lib.ListN.{length, getD}
 use Rattle.sets.specs.Sets.{has, meet, minus, setOf, those, members, size, someIn}
-use Rattle.sets.proofs.Tests.{is-true, of-true}
+use Rattle.sets.proofs.Tests.{is-true}
 use Rattle.sets.proofs.Facts.{has-lt}
 use Rattle.sets.proofs.Membership.{has-meet}
 use Rattle.rows.specs.Over.{over}
 use Rattle.meaning.specs.Lists.{rowFrom, refusedIf}
 use Rattle.meaning.specs.Run.{State, reading, dueTimers, ran}
 use Rattle.meaning.specs.Table.{wordIn, kIn, bIn, sourceIn, delayIn, offsetIn, timersIn, cellsIn, cellWord, tableOk}
-use Rattle.meaning.specs.TableRun.{dueNumber, tableStateOk, cellOf, stateAfterCell, isStale, tableStep, tableTicks, tableRun}
+use Rattle.meaning.specs.TableRun.{dueNumber, tableStateOk, cellOf, stateAfterCell, isStale, tableStep, tableTicks}
 use Rattle.meaning.proofs.TableLaws.{dueNumber-lt}
 use Rattle.run.specs.Runs.{endedRun}
-use Rattle.run.proofs.DeadlineLaws.{stateFrom, due-deadlines, state-word, state-next, state-start, start-within}
-use Rattle.run.proofs.LoopLaws.{input-below, Reached, reached-start, reached-end, reached-foreign, reached-refused, reached-turn, stopped, stopped-refused, stopped-state, stopped-short, goes-on}
+use Rattle.run.proofs.DeadlineLaws.{stateFrom, state-next, deadline-after, state-start, start-within}
+use Rattle.run.proofs.LoopLaws.{input-below, reached-start, reached-turn, Timed, due-now, ends-refused}
 use Rattle.meaning.proofs.TableLaws.{cell-lt}
 use Rattle.meaning.proofs.LayoutLaws.{next-lt}
 use Rattle.table.proofs.LayoutFacts.{timers-few, timer-lt, delay-pos, delay-lt, cell-inside}
@@ -45,36 +45,41 @@ pub record Known (w : List ℕ) (k : ℕ) (delays from : List ℕ) (timed : ℕ)
 -- ---- input i is reached in block b, by the deadlines ends
 
 pub record ReachedBlock (w inputs out₀ : List ℕ) (q₀ : State) (out ends : List ℕ) (b i : ℕ) : Type 0 where
-  pub reached : Reached (kIn w) (tableStep w) inputs out₀ q₀ out 0 i (stateAt w b ends i)
+  pub timed : Timed (kIn w) (tableStep w) inputs out₀ q₀ out ends b (timersIn w b) 0 i
   pub sound : T (tableOk w)
-  pub long : length ends ≡ 64
   pub low : b < bIn w
   pub fits : timersIn w b < 2 ^ 64
-  pub ahead : (t : ℕ) → t < 64 → T (has (timersIn w b) t) → (i < getD ends t 0) × (getD ends t 0 ≤ i + 65535)
 
 -- at the start the deadlines are the readings
-module _ (w inputs out : List ℕ) (h : T (tableOk w)) (q : State) (ok : tableStateOk w q ≡ true) where
-  module _ {b : ℕ} {ends : List ℕ} (be : b ≡ q .at) (ee : ends ≡ q .readings) (long : length ends ≡ 64) where
-    pub start-block : timersIn w b < 2 ^ 64 → 5 * length inputs ≤ length out → ReachedBlock w inputs out (stateAt w b ends 0) out ends b 0
-    start-block fits room =
-        record {
-          reached = reached-start (kIn w) (tableStep w) inputs out (stateAt w b ends 0) room;
-          sound = h;
-          long = long;
-          low = subst (λ (x : ℕ). x < bIn w) (sym be) (admitted w h q ok .0);
-          fits = fits;
-          ahead = rw (be, ee) ahead;
-        }
-      where
-        ahead : (t : ℕ) → t < 64 → T (has (timersIn w (q .at)) t) → (0 < getD (q .readings) t 0) × (getD (q .readings) t 0 ≤ 0 + 65535)
-        ahead t l m =
-            let r = start-within (timersIn w (q .at)) (delayIn w) q (admitted w h q ok .1) t l m in
-            (omega (arith, r .0), omega (arith, r .1, delay-lt w h t))
+module _ (w : List ℕ) (h : T (tableOk w)) (q : State) (ok : tableStateOk w q ≡ true) {b : ℕ} {ends : List ℕ} (be : b ≡ q .at)
+    (ee : ends ≡ q .readings) (long : length ends ≡ 64) where
+  pub start-state : stateAt w b ends 0 ≡ q
+  start-state =
+      ap₂ (λ (x : ℕ) (l : List ℕ). stateAt w x l 0) be ee
+      ∙ state-start (timersIn w (q .at)) (delayIn w) q (admitted w h q ok .1) (sym (ap length ee) ∙ long)
 
-    pub start-state : stateAt w b ends 0 ≡ q
-    start-state =
-        ap₂ (λ (x : ℕ) (l : List ℕ). stateAt w x l 0) be ee
-        ∙ state-start (timersIn w (q .at)) (delayIn w) q (admitted w h q ok .1) (sym (ap length ee) ∙ long)
+  pub start-block : {inputs out : List ℕ} → timersIn w b < 2 ^ 64 → 5 * length inputs ≤ length out
+      → ReachedBlock w inputs out (stateAt w b ends 0) out ends b 0
+  start-block {inputs} {out} fits room =
+      record {
+        timed = record { reached = reached-start (kIn w) (tableStep w) inputs out (stateAt w b ends 0) room; long = long; ahead = rw (be, ee) ahead };
+        sound = h;
+        low = subst (λ (x : ℕ). x < bIn w) (sym be) (admitted w h q ok .0);
+        fits = fits;
+      }
+    where
+      ahead : (t : ℕ) → T (has (timersIn w (q .at)) t) → (0 < getD (q .readings) t 0) × (getD (q .readings) t 0 ≤ 0 + 65535)
+      ahead t m =
+          let r = start-within (timersIn w (q .at)) (delayIn w) q (admitted w h q ok .1) t (has-lt 64 (timersIn w (q .at)) t (rw be at fits) m) m in
+          (omega (arith, r .0), omega (arith, r .1, delay-lt w h t))
+
+-- the deadline v of a timer with a reading f left after a tick, started in it or not, and running before it or not
+deadline-left : (i : ℕ) (started on : Bool) {v f r e d : ℕ} → v ≡ cond started (i + 1 + d) e → f ≡ cond started d (r - 1) → 0 < f
+    → r ≡ cond on (e - i) 0 → d < 65536 → (T on → e ≤ i + 65535)
+    → (i + 1 < v) × (v ≤ i + 1 + 65535) × (v - (i + 1) ≡ cond started d (r - 1))
+deadline-left i true on v f l r d far = (omega arith, omega arith, omega arith)
+deadline-left i false true v f l r d far = (omega arith, omega (arith, far tt), omega arith)
+deadline-left i false false v f l r d far = absurd (omega arith)
 
 module _ {w inputs out₀ : List ℕ} {q₀ : State} {out ends : List ℕ} {b i : ℕ} (k : ReachedBlock w inputs out₀ q₀ out ends b i) where
   abbrev now : State
@@ -87,35 +92,13 @@ module _ {w inputs out₀ : List ℕ} {q₀ : State} {out ends : List ℕ} {b i 
   idle : (t : ℕ) → t < 64 → has (timersIn w b) t ≡ false → reading (now .readings) t ≡ 0
   idle t l e = reading-now t l ∙ ap (λ (a : Bool). cond a (getD ends t 0 - i) 0) e
 
-  -- ---- the timers that run, as the code has them
-
-  module _ {timers : ℕ} (te : timers ≡ timersIn w b) where
-    -- no deadline of theirs is past
-    pub later : (t : ℕ) → has timers t ≡ true → i ≤ getD ends t 0
-    later t e =
-        let m : T (has (timersIn w b) t) = of-true (ap (λ (x : ℕ). has x t) (sym te) ∙ e) in
-        le-of-lt (k .ahead t (has-lt 64 (timersIn w b) t (k .fits) m) m .0)
-
-    -- what a run that ends now returns
-    ends-now : (e : ℕ) → endedRun ends b timers i 0 e out ≡ record { done = i; state = now; refusal = e; rounds = 0; out = out }
-    ends-now e =
-        ap (λ (x : ℕ). endedRun ends b x i 0 e out) te
-        ∙ ap (λ (q : State). record { done = i; state = q; refusal = e; rounds = 0; out = out })
-        (state-word (timersIn w b) ends i b (λ t l m. omega (arith, k .ahead t l m .1)))
-
-    pub ends-done : length inputs ≤ i → endedRun ends b timers i 0 0 out ≡ ran out₀ (tableTicks w inputs q₀)
-    ends-done l = ends-now 0 ∙ reached-end (kIn w) (tableStep w) inputs out₀ q₀ (k .reached) l
-
-    pub ends-foreign : i < length inputs → (getD inputs i 0 / 2 ^ kIn w ≡ 0 → ⊥) → endedRun ends b timers i 0 13 out ≡ ran out₀ (tableTicks w inputs q₀)
-    ends-foreign l n = ends-now 13 ∙ reached-foreign (kIn w) (tableStep w) inputs out₀ q₀ (k .reached) l n
-
-    -- six timers at most make a small number
-    pub number-small : (d : ℕ) {n : ℕ} → n ≡ dueNumber (members 64 timers) d → n < 64
-    unfolding size
-    number-small d e =
-        lt-of-lt-of-le
-        (subst (λ (x : ℕ). x < 2 ^ size 64 (timersIn w b)) (sym (e ∙ ap (λ (x : ℕ). dueNumber (members 64 x) d) te)) (dueNumber-lt (members 64 (timersIn w b)) d))
-        (pow-le-pow-right (omega arith) {i = size 64 (timersIn w b)} (timers-few w (k .sound) b (k .low)))
+  -- six timers at most make a small number
+  pub number-small : {timers : ℕ} → timers ≡ timersIn w b → (d : ℕ) {n : ℕ} → n ≡ dueNumber (members 64 timers) d → n < 64
+  unfolding size
+  number-small te d e =
+      rw (e, te)
+      (lt-of-lt-of-le (dueNumber-lt (members 64 (timersIn w b)) d)
+      (pow-le-pow-right (omega arith) {i = size 64 (timersIn w b)} (timers-few w (k .sound) b (k .low))))
 
   -- ---- the state after a cell, by the deadlines then
 
@@ -129,21 +112,8 @@ module _ {w inputs out₀ : List ℕ} {q₀ : State} {out ends : List ℕ} {b i 
         → (i + 1 < getD ends′ t 0) × (getD ends′ t 0 ≤ i + 1 + 65535)
         × (getD ends′ t 0 - (i + 1) ≡ cond (has (cellWord w b c 1) (sourceIn w t)) (delayIn w t) (reading (now .readings) t - 1))
     after t l m =
-        go (has (cellWord w b c 1) (sourceIn w t)) (has (timersIn w b) t) refl (e t l m)
-        (sym (reading-after w (k .sound) now c n t l m)) (reading-left w (k .sound) now c n t l m s)
-      where
-        go : (a d : Bool) → has (timersIn w b) t ≡ d
-            → getD ends′ t 0 ≡ cond a (i + 1 + delayIn w t) (getD ends t 0)
-            → cond a (delayIn w t) (reading (now .readings) t - 1) ≡ reading (stateAfterCell w now c .readings) t
-            → 0 < reading (stateAfterCell w now c .readings) t
-            → (i + 1 < getD ends′ t 0) × (getD ends′ t 0 ≤ i + 1 + 65535) × (getD ends′ t 0 - (i + 1) ≡ cond a (delayIn w t) (reading (now .readings) t - 1))
-        go true d g v r f =
-            (omega (arith, delay-pos w (k .sound) next n t m l), omega (arith, delay-lt w (k .sound) t), omega arith)
-        go false true g v r f =
-            let at : reading (now .readings) t ≡ getD ends t 0 - i = reading-now t l ∙ ap (λ (a : Bool). cond a (getD ends t 0 - i) 0) g in
-            let far = k .ahead t l (of-true g) .1 in
-            (omega arith, omega arith, omega arith)
-        go false false g v r f = absurd (omega (arith, idle t l g))
+        deadline-left i (has (cellWord w b c 1) (sourceIn w t)) (has (timersIn w b) t) (e t l m) (reading-after w (k .sound) now c n t l m)
+        (reading-left w (k .sound) now c n t l m s) (reading-now t l) (delay-lt w (k .sound) t) (λ g. k .timed .ahead t g .1)
 
     next-state : stateAt w next ends′ (i + 1) ≡ stateAfterCell w now c
     unfolding stateAfterCell
@@ -187,17 +157,12 @@ module _ {w inputs out₀ : List ℕ} {q₀ : State} {out ends : List ℕ} {b i 
   abbrev entered : ℕ
   entered = cellWord w b c 1
 
-  due-now : d ≡ dueTimers (timersIn w b) (q .readings)
-  due-now =
-      p .due ∙ ap (λ (x : ℕ). those 64 x (λ t. eqb (getD ends t 0) (i + 1))) (p .running)
-      ∙ due-deadlines (timersIn w b) ends i (λ t u m. k .ahead t u m .0)
+  due-is : d ≡ dueTimers (timersIn w b) (q .readings)
+  due-is = due-now (k .timed) (p .running) (p .due)
 
   place-is : cell ≡ offsetIn w b + 3 + 6 * c
   unfolding cellOf
-  place-is =
-      p .place
-      ∙ ap (λ (x : ℕ). offsetIn w b + 3 + 6 * (x * 2 ^ kIn w + input))
-      (p .number ∙ ap₂ (λ (x y : ℕ). dueNumber (members 64 x) y) (p .running) due-now)
+  place-is = p .place ∙ rw (p .number, p .running, due-is)
 
   there : c < cellsIn w b
   there = cell-lt w q input (input-below (kIn w) input (p .below))
@@ -224,24 +189,22 @@ module _ {w inputs out₀ : List ℕ} {q₀ : State} {out ends : List ℕ} {b i 
   next-below = subst (λ (x : ℕ). x < bIn w) (sym next-is) low
 
   -- the tick of the definition: refused 15, or done
-  refused : isStale w (stateAfterCell w q c) ≡ true → tableStep w q input .refusal ≡ 15
-  unfolding tableStep refusedIf
-  refused s = rw s refl
-
   turn : isStale w (stateAfterCell w q c) ≡ false → (ends′ : List ℕ) → length ends′ ≡ 64 → nextTimers < 2 ^ 64
       → ((t : ℕ) → t < 64 → T (has nextTimers t) → getD ends′ t 0 ≡ cond (has entered (sourceIn w t)) (i + 1 + delayIn w t) (getD ends t 0))
       → ReachedBlock w inputs out₀ q₀ (over out (5 * i) (rowFrom 1 5 (cellWord w b c))) ends′ nextBlock (i + 1)
   unfolding tableStep refusedIf
   turn s ends′ long fits e =
       record {
-        reached =
-            rw (next-state k c low s ends′ e)
-            (reached-turn (kIn w) (tableStep w) inputs out₀ q₀ (k .reached) (p .more) (p .below) (rw s refl) (rowFrom-length (cellWord w b c) 1 5));
+        timed = record {
+          reached =
+              rw (next-state k c low s ends′ e)
+              (reached-turn (kIn w) (tableStep w) inputs out₀ q₀ (k .timed .reached) (p .more) (p .below) (rw s refl) (rowFrom-length (cellWord w b c) 1 5));
+          long = long;
+          ahead = λ t m. let r = after k c low s ends′ e t (has-lt 64 nextTimers t fits m) m in (r .0, r .1);
+        };
         sound = h;
-        long = long;
         low = low;
         fits = fits;
-        ahead = λ t u m. let r = after k c low s ends′ e t u m in (r .0, r .1);
       }
 
   module _ {j : ℕ} {delays from : List ℕ} {timed : ℕ} (v : Known w j delays from timed) where
@@ -251,9 +214,10 @@ module _ {w inputs out₀ : List ℕ} {q₀ : State} {out ends : List ℕ} {b i 
         → ReachedBlock w inputs out₀ q₀ out′ ends′ b′ (i + 1)
     turn-stays g dz ez oe ee be =
         let same : nextBlock ≡ b = sym next-is ∙ g in
+        let fits : nextTimers < 2 ^ 64 = rw same (k .fits) in
         rw (oe, five-is, ee, be)
         (subst (λ (x : ℕ). ReachedBlock w inputs out₀ q₀ (over out (5 * i) (rowFrom 1 5 (cellWord w b c))) ends x (i + 1)) same
-        (turn (stays w h q c low (idle k) d due-now (ap (timersIn w) same) dz none) ends (k .long) (subst (λ (x : ℕ). timersIn w x < 2 ^ 64) (sym same) (k .fits))
+        (turn (stays w h q c low (idle k) d due-is fits (ap (timersIn w) same) dz none) ends (k .timed .long) fits
         (λ t u m. ap (λ (a : Bool). cond a (i + 1 + delayIn w t) (getD ends t 0)) (sym (none t u m)))))
       where
         none : (t : ℕ) → t < 64 → T (has nextTimers t) → has entered (sourceIn w t) ≡ false
@@ -272,20 +236,15 @@ module _ {w inputs out₀ : List ℕ} {q₀ : State} {out ends : List ℕ} {b i 
       again-there : (t : ℕ) → t < 64 → T (has nextTimers t) → has again t ≡ has entered (sourceIn w t)
       again-there t u m =
           let s = setOf 64 (λ u. someIn 32 (meet (getD w (cell + 1) 0) timed) (λ m. has (getD from m 0) u)) in
-          ap (λ (x : ℕ). has x t) ae ∙ has-meet later s t
-          ∙ ap (λ (a : Bool). a && has s t) (ap (λ (x : ℕ). has x t) next-timers ∙ is-true (has nextTimers t) m)
-          ∙ started-there w h from timed (v .timersAre) (v .sourcesAre) (getD w (cell + 1) 0) t (timer-lt w h nextBlock low t m u) (delay-pos w h nextBlock low t m u)
-          ∙ ap (λ (x : ℕ). has x (sourceIn w t)) entered-is
+          rw (ae, has-meet later s t, next-timers, is-true (has nextTimers t) m, entered-is)
+          (started-there w h from timed (v .timersAre) (v .sourcesAre) entered t (timer-lt w h nextBlock low t m u) (delay-pos w h nextBlock low t m u))
 
       stale-now : isStale w (stateAfterCell w q c) ≡ not (eqb (minus (minus later again) (minus timers d)) 0)
-      stale-now =
-          stale-is w h q c low (idle k) d due-now again next-fits again-there
-          ∙ ap₂ (λ (x y : ℕ). not (eqb (minus (minus x again) (minus y d)) 0)) (sym next-timers) (sym (p .running))
+      stale-now = rw (next-timers, p .running) (stale-is w h q c low (idle k) d due-is again next-fits again-there)
 
       pub ends-stale : not (eqb (minus (minus later again) (minus timers d)) 0) ≡ true → endedRun ends b timers i 0 15 out ≡ ran out₀ (tableTicks w inputs q₀)
-      ends-stale g =
-          ends-now k (p .running) 15
-          ∙ reached-refused (kIn w) (tableStep w) inputs out₀ q₀ (k .reached) (p .more) (p .below) (refused (stale-now ∙ g)) (λ z. omega arith)
+      unfolding tableStep refusedIf
+      ends-stale g = ends-refused (k .timed) (p .running) (p .more) (p .below) (rw (stale-now ∙ g)) (λ z. omega arith)
 
       pub turn-moves : not (eqb (minus (minus later again) (minus timers d)) 0) ≡ false
           → {out′ ends′ : List ℕ} → out′ ≡ over out (5 * i) (fiveIn w cell)
@@ -299,30 +258,5 @@ module _ {w inputs out₀ : List ℕ} {q₀ : State} {out ends : List ℕ} {b i 
 
           at : (t : ℕ) → t < 64 → T (has nextTimers t) → getD ends′ t 0 ≡ cond (has entered (sourceIn w t)) (i + 1 + delayIn w t) (getD ends t 0)
           at t u m =
-              ap (λ (r : List ℕ). getD r t 0) ee ∙ row-at 64 f t u
-              ∙ ap₂ (λ (a : Bool) (x : ℕ). cond a (i + 1 + x) (getD ends t 0)) (again-there t u m)
+              deadline-after again i delays ends ee t u (again-there t u m)
               (ap (λ (r : List ℕ). getD r t 0) (v .delaysAre) ∙ delay-at w t u (timer-lt w h nextBlock low t m u))
-
--- ---- the whole run: 15, 14, 12, then tick by tick
-
-module _ (w inputs out : List ℕ) (q : State) where
-  pub run-bad-table : tableOk w ≡ false → stopped q out 15 ≡ tableRun w q inputs out
-  unfolding tableRun refusedIf
-  run-bad-table e = stopped-refused (kIn w) (tableStep w) _ (tableStateOk w q) q inputs out (rw e refl) (λ z. omega arith)
-
-  module _ (z : tableOk w ≡ true) where
-    no-refusal : refusedIf (not (tableOk w)) 15 ≡ 0
-    unfolding refusedIf
-    no-refusal = rw z refl
-
-    pub run-bad-state : tableStateOk w q ≡ false → stopped q out 14 ≡ tableRun w q inputs out
-    unfolding tableRun
-    run-bad-state e = stopped-state (kIn w) (tableStep w) _ _ q inputs out no-refusal e
-
-    pub run-short : tableStateOk w q ≡ true → length out / 5 < length inputs → stopped q out 12 ≡ tableRun w q inputs out
-    unfolding tableRun
-    run-short e h = stopped-short (kIn w) (tableStep w) _ _ q inputs out no-refusal e h
-
-    pub run-ticks : tableStateOk w q ≡ true → 5 * length inputs ≤ length out → ran out (tableTicks w inputs q) ≡ tableRun w q inputs out
-    unfolding tableRun
-    run-ticks e h = goes-on (kIn w) (tableStep w) _ _ q inputs out no-refusal e h

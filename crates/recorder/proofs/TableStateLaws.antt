@@ -1,26 +1,23 @@
 -- Refusal 14 of a table run: a block below B with sound readings. Block 0 has no timers, so there the state is fresh. Assumes nothing.
 use mathlib.Core.Path.{_≡_, sym, ap, _∙_}
-use mathlib.Core.Bool.{true, false, _&&_, and-false, or-false}
+use mathlib.Core.Bool.{true, false, and-false, or-false}
 use mathlib.Core.List.{List}
 use Prim.Native.Nat.{ℕ, _≤_, _<_}
 use native.Mathlib.Nat.{lt-of-not-le}
 use native.Mathlib.Decide.{ℕ-discrete, decLe}
 use native.Mathlib.Omega.{arith}
-use lib.Dec.{T, eqb, leb, ltb}
+use lib.Dec.{T, eqb, ltb}
 use lib.ListN.{getD}
 use borrow.Author.Tests.{ne-eqb, lt-ltb, le-ltb}
-use Rattle.sets.specs.Sets.{has, every}
-use Rattle.sets.proofs.Tests.{of-true, of-false, cond-ext}
-use Rattle.sets.proofs.Facts.{every-e}
-use Rattle.sets.proofs.Membership.{has-none}
-use Rattle.sets.proofs.Quantifiers.{every-same}
+use Rattle.sets.specs.Sets.{every}
+use Rattle.sets.proofs.Tests.{of-false}
 use Rattle.meaning.specs.Lists.{rowFrom}
 use Rattle.meaning.specs.Run.{State, reading, isFresh, readingsOk}
 use Rattle.meaning.specs.Table.{bIn, delayIn, timersIn, tableOk}
 use Rattle.meaning.specs.TableRun.{tableStateOk}
 use Rattle.meaning.proofs.LayoutLaws.{b-pos, timers-first}
 use Rattle.table.proofs.LayoutFacts.{timer-lt}
-use Rattle.run.proofs.ReadingTests.{readingFits, readings-ok-def}
+use Rattle.run.proofs.ReadingTests.{readingFits, readings-sound, readings-none, delays-serve}
 use Rattle.recorder.specs.Timers.{timerDelayIn}
 use Rattle.recorder.proofs.TimerLaws.{delay-at}
 
@@ -37,34 +34,20 @@ module _ (w : List ℕ) (h : T (tableOk w)) (q : State) where
 
   module _ (l : q .at < bIn w) where
     -- in block 0 no timer runs
-    fresh-ok : q .at ≡ 0 → readingsOk timers (delayIn w) readings ≡ tableStateOk w q
-    unfolding tableStateOk isFresh reading
-    fresh-ok e =
-        readings-ok-def timers (delayIn w) readings
-        ∙ every-same 64 (readingFits timers (delayIn w) readings) (λ t. eqb (getD readings t 0) 0) (λ t k. rw (e, timers-first w h, has-none t))
-        ∙ rw e (sym (or-false (every 64 (λ t. eqb (getD readings t 0) 0))))
-
-    later-ok : (q .at ≡ 0 → ⊥) → readingsOk timers (delayIn w) readings ≡ tableStateOk w q
-    unfolding tableStateOk isFresh
-    later-ok n = rw (ne-eqb (q .at) 0 n, lt-ltb 0 (q .at) (omega arith), lt-ltb (q .at) (bIn w) l)
-
     readings-decide : readingsOk timers (delayIn w) readings ≡ tableStateOk w q
+    unfolding tableStateOk isFresh reading
     readings-decide = go (ℕ-discrete (q .at) 0)
       where
         go : Dec (q .at ≡ 0) → readingsOk timers (delayIn w) readings ≡ tableStateOk w q
-        go (yes e) = fresh-ok e
-        go (no n) = later-ok n
+        go (yes e) =
+            readings-none timers (delayIn w) readings (ap (timersIn w) e ∙ timers-first w h)
+            ∙ rw e (sym (or-false (every 64 (λ t. eqb (getD readings t 0) 0))))
+        go (no n) = rw (ne-eqb (q .at) 0 n, lt-ltb 0 (q .at) (omega arith), lt-ltb (q .at) (bIn w) l)
 
     -- the delays of a block's timers stand among the delays
     pub state-inside : readingsOk timers (λ t. getD (rowFrom 0 64 (timerDelayIn w)) t 0) readings ≡ tableStateOk w q
     state-inside =
-        let delays = rowFrom 0 64 (timerDelayIn w) in
-        readings-ok-def timers (λ t. getD delays t 0) readings
-        ∙ every-same 64 (readingFits timers (λ t. getD delays t 0) readings) (readingFits timers (delayIn w) readings) (λ t k.
-        let v = getD readings t 0 in
-        cond-ext (has timers t) (leb 1 v && leb v (getD delays t 0)) (leb 1 v && leb v (delayIn w t)) (eqb v 0) (λ r.
-        ap (λ (d : ℕ). leb 1 v && leb v d) (delay-at w t k (timer-lt w h (q .at) l t r k))))
-        ∙ sym (readings-ok-def timers (delayIn w) readings)
+        delays-serve timers (delayIn w) readings (λ t. getD (rowFrom 0 64 (timerDelayIn w)) t 0) (λ t k r. delay-at w t k (timer-lt w h (q .at) l t r k))
         ∙ readings-decide
 
   -- of a state that is not refused the block is there, and the readings are sound
@@ -75,4 +58,4 @@ module _ (w : List ℕ) (h : T (tableOk w)) (q : State) where
       go (yes l) = absurd (of-false (sym ok ∙ sym (state-outside l)) tt)
       go (no n) =
           let l : q .at < bIn w = lt-of-not-le n in
-          (l, every-e 64 (readingFits timers (delayIn w) readings) (of-true (sym (readings-ok-def timers (delayIn w) readings) ∙ readings-decide l ∙ ok)))
+          (l, readings-sound timers (delayIn w) readings (readings-decide l ∙ ok))

@@ -15,9 +15,9 @@ use Rattle.sets.proofs.Quantifiers.{has-union-over}
 use Rattle.meaning.specs.Lists.{rowFrom}
 use Rattle.meaning.specs.Table.{tIn, sourceIn, delayIn, tableOk}
 use Rattle.table.proofs.LayoutFacts.{delay-lt}
-use Rattle.recorder.specs.Timers.{timerDelayIn, timersBelow, timersFrom}
+use Rattle.recorder.specs.Timers.{timerDelayIn, timersBelow}
 use Rattle.meaning.proofs.ListLaws.{row-at, rowFrom-ext}
-use Rattle.recorder.proofs.RowStoreLaws.{row-zeros, row-set}
+use Rattle.run.proofs.ArrayLaws.{row-zeros, row-set}
 
 module _ (w : List ℕ) where
   -- ---- the delays
@@ -31,19 +31,10 @@ module _ (w : List ℕ) where
 
   pub delays-turn : (t : ℕ) {r : List ℕ} {v : ℕ} → r ≡ rowFrom 0 64 (delaysBelow t) → v ≡ delayIn w t → set r t v ≡ rowFrom 0 64 (delaysBelow (t + 1))
   delays-turn t e k =
-      ap₂ (λ (l : List ℕ) (x : ℕ). set l t x) e (k ∙ sym here) ∙ row-set 64 (delaysBelow t) (delaysBelow (t + 1)) t (λ j l n. other j n)
-    where
-      here : delaysBelow (t + 1) t ≡ delayIn w t
-      here = rw (lt-ltb t (t + 1) (omega arith))
-
-      other : (j : ℕ) → (j ≡ t → ⊥) → delaysBelow t j ≡ delaysBelow (t + 1) j
-      other j n =
-          ap (λ (b : Bool). cond b (delayIn w j) 0)
-          (bool-ext (ltb j t) (ltb j (t + 1)) (λ h. lt→ltb j (t + 1) (omega (arith, ltb→lt j t h))) (λ h. lt→ltb j t (omega (arith, ltb→lt j (t + 1) h))))
-
-  pub delays-done : (t : ℕ) → t ≡ tIn w → rowFrom 0 64 (delaysBelow t) ≡ rowFrom 0 64 (timerDelayIn w)
-  unfolding timerDelayIn
-  delays-done t e = ap (λ (n : ℕ). rowFrom 0 64 (delaysBelow n)) e
+      ap₂ (λ (l : List ℕ) (x : ℕ). set l t x) e (k ∙ rw (lt-ltb t (t + 1) (omega arith)))
+      ∙ row-set 64 (delaysBelow t) (delaysBelow (t + 1)) t (λ j l n.
+      ap (λ (b : Bool). cond b (delayIn w j) 0)
+      (bool-ext (ltb j t) (ltb j (t + 1)) (λ h. lt→ltb j (t + 1) (omega (arith, ltb→lt j t h))) (λ h. lt→ltb j t (omega (arith, ltb→lt j (t + 1) h)))))
 
   -- the delay of a timer stands among them
   pub delay-at : (t : ℕ) → t < 64 → t < tIn w → getD (rowFrom 0 64 (timerDelayIn w)) t 0 ≡ delayIn w t
@@ -86,10 +77,6 @@ module _ (w : List ℕ) where
 
       timed : (j : ℕ) → from j t ≡ eqb (sourceIn w t) j
       timed j = ap (λ (b : Bool). b && eqb (sourceIn w t) j) (lt-ltb 0 (delayIn w t) d)
-
-  pub timers-done : (t : ℕ) → t ≡ tIn w → rowFrom 0 32 (timersBelow w t) ≡ rowFrom 0 32 (timersFrom w)
-  unfolding timersFrom
-  timers-done t e = ap (λ (n : ℕ). rowFrom 0 32 (timersBelow w n)) e
 
 -- ---- the timers whose source is in a set
 

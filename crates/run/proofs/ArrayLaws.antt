@@ -1,18 +1,35 @@
--- Arrays of 64 words that a loop fills: a copy, and a row changed at the members of a set. Assumes nothing.
-use mathlib.Core.Path.{_≡_, sym, ap, _∙_}
+-- Arrays of words that a loop fills: a row changed at one place, a copy, and a row changed at the members of a set. Assumes nothing.
+use mathlib.Core.Path.{_≡_, sym, _∙_}
 use mathlib.Core.Bool.{cond}
 use mathlib.Core.List.{List}
 use Prim.Native.Nat.{ℕ, _+_, _≤_, _<_}
 use native.Mathlib.Decide.{ℕ-discrete}
 use native.Mathlib.Numerals.{add-one}
 use native.Mathlib.Omega.{arith}
-use lib.ListN.{length, getD, take, set, replicate, getD-replicate}
+use lib.ListN.{length, getD, take, set, replicate, length-set, length-replicate, getD-replicate}
 use lib.Seq.{take-all, take-suc, take-suc-set, getD-set-same, getD-set-other}
 use Rattle.sets.specs.Sets.{has}
 use Rattle.sets.proofs.Membership.{has-none}
 use Rattle.sets.proofs.Members.{Turn, without-it, without-other}
 use Rattle.meaning.specs.Lists.{rowFrom}
-use Rattle.meaning.proofs.ListLaws.{rowFrom-ext, rowFrom-getD}
+use Rattle.meaning.proofs.ListLaws.{row-at, rowFrom-ext, rowFrom-length, rowFrom-getD}
+
+-- ---- a list by its words
+
+pub row-of : (r : List ℕ) (n : ℕ) (f : ℕ → ℕ) → length r ≡ n → ((j : ℕ) → j < n → getD r j 0 ≡ f j) → r ≡ rowFrom 0 n f
+row-of r n f l e = rw l at (rowFrom-getD r 0) ∙ rowFrom-ext (λ j. getD r j 0) f 0 n (λ j a b. e j (omega arith))
+
+-- a row of zeros
+pub row-zeros : (n : ℕ) (f : ℕ → ℕ) → ((j : ℕ) → j < n → f j ≡ 0) → replicate n 0 ≡ rowFrom 0 n f
+row-zeros n f e = row-of (replicate n 0) n f (length-replicate n 0) (λ j k. getD-replicate n j 0 0 k ∙ sym (e j k))
+
+-- storing g t at t gives the row of g, if f and g agree at the other places
+pub row-set : (n : ℕ) (f g : ℕ → ℕ) (t : ℕ) → ((j : ℕ) → j < n → (j ≡ t → ⊥) → f j ≡ g j) → set (rowFrom 0 n f) t (g t) ≡ rowFrom 0 n g
+row-set n f g t e = row-of (set (rowFrom 0 n f) t (g t)) n g (simp (length-set, rowFrom-length)) (λ j l. at j l (ℕ-discrete j t))
+  where
+    at : (j : ℕ) → j < n → Dec (j ≡ t) → getD (set (rowFrom 0 n f) t (g t)) j 0 ≡ g j
+    at j l (yes p) = rw p (getD-set-same (rowFrom 0 n f) t (g t) 0 (omega (arith, rowFrom-length f 0 n)))
+    at j l (no p) = getD-set-other (rowFrom 0 n f) t j (g t) 0 p ∙ row-at n f j l ∙ e j l p
 
 -- ---- a list copied word by word
 
@@ -39,10 +56,10 @@ module _ (f : ℕ → ℕ) where
           rw (p, u .removed, without-it s t, u .lowest .member) (getD-set-same r t (f t) 0 (omega (arith, u .lowest .small)))
       at j (no p) = rw (u .removed, without-other s t j p, getD-set-other r t j (f t) 0 p)
 
-  pub filled-done : (r : List ℕ) (s : ℕ) → s ≡ 0 → length r ≡ 64 → filled r s ≡ r
-  filled-done r s z e =
-      rowFrom-ext (λ t. cond (has s t) (f t) (getD r t 0)) (λ t. getD r t 0) 0 64 (λ t a b. rw (z, has-none t))
-      ∙ sym (rw e at (rowFrom-getD r 0))
+  pub filled-done : (r : List ℕ) (s : ℕ) → s ≡ 0 → length r ≡ 64 → r ≡ filled r s
+  filled-done r s z e = row-of r 64 (λ t. cond (has s t) (f t) (getD r t 0)) e (λ t l. rw (z, has-none t))
 
   pub filled-none : (s : ℕ) → filled (replicate 64 0) s ≡ rowFrom 0 64 (λ t. cond (has s t) (f t) 0)
-  filled-none s = rowFrom-ext (λ t. cond (has s t) (f t) (getD (replicate 64 0) t 0)) (λ t. cond (has s t) (f t) 0) 0 64 (λ j a b. ap (cond (has s j) (f j)) (getD-replicate 64 j 0 0 (omega arith)))
+  filled-none s =
+      rowFrom-ext (λ t. cond (has s t) (f t) (getD (replicate 64 0) t 0)) (λ t. cond (has s t) (f t) 0) 0 64
+      (λ j a b. rw (getD-replicate {A = ℕ} 64 j 0 0 (omega arith)))

@@ -27,9 +27,7 @@ stateFrom at timers ends i = record { at = at; readings = readingsFrom timers en
 
 module _ (timers : ℕ) (ends : List ℕ) (i : ℕ) where
   pub reading-from : (t : ℕ) → t < 64 → T (has timers t) → getD (readingsFrom timers ends i) t 0 ≡ getD ends t 0 - i
-  reading-from t l h =
-      let f : ℕ → ℕ = λ u. cond (has timers u) (getD ends u 0 - i) 0 in
-      row-at 64 f t l ∙ ap (λ (b : Bool). cond b (getD ends t 0 - i) 0) (is-true (has timers t) h)
+  reading-from t l h = rw (row-at 64 (λ u. cond (has timers u) (getD ends u 0 - i) 0) t l, is-true (has timers t) h)
 
   -- a timer is due in the tick of its deadline
   pub due-deadlines : ((t : ℕ) → t < 64 → T (has timers t) → i < getD ends t 0)
@@ -62,6 +60,13 @@ module _ (timers : ℕ) (ends : List ℕ) (i : ℕ) where
       (rowFrom-ext (λ t. cond (has timers t) (getD ends t 0 - i) 0)
       (λ t. cond (has timers t) (cond (has entered (sourceOf t)) (delayOf t) (reading (q .readings) t - 1)) 0) 0 64
       (λ t a b. cond-ext (has timers t) (getD ends t 0 - i) (cond (has entered (sourceOf t)) (delayOf t) (reading (q .readings) t - 1)) 0 (e t (omega arith))))
+
+-- the deadline of a timer, after those of a set start again
+pub deadline-after : (set i : ℕ) (delays ends : List ℕ) {ends′ : List ℕ}
+    → ends′ ≡ rowFrom 0 64 (λ t. cond (has set t) (i + 1 + getD delays t 0) (getD ends t 0))
+    → (t : ℕ) → t < 64 → {b : Bool} {d : ℕ} → has set t ≡ b → getD delays t 0 ≡ d → getD ends′ t 0 ≡ cond b (i + 1 + d) (getD ends t 0)
+deadline-after set i delays ends ee t l p q =
+    rw (ee, row-at 64 (λ u. cond (has set u) (i + 1 + getD delays u 0) (getD ends u 0)) t l, p, q)
 
 -- ---- at the start of a call the deadlines are the readings, where these are sound
 

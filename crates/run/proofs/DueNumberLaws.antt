@@ -1,6 +1,6 @@
 -- The loop that finds the due timers of a set: the set built so far, and the number that it makes. Assumes nothing.
 use mathlib.Core.Path.{_≡_, refl, sym, ap, ap₂, _∙_, subst}
-use mathlib.Core.Bool.{Bool, true, false, _&&_}
+use mathlib.Core.Bool.{Bool, true, false}
 use mathlib.Core.List.{List}
 use Prim.Native.Nat.{ℕ, suc, _+_, _*_, _^_, _≤_, _<_}
 use native.Mathlib.Nat.{add-zero, zero-add, zero-mul, one-mul, mul-add, mul-one, mul-assoc, mul-zero, pow-suc, pow-le-pow-right, lt-of-lt-of-le}
@@ -43,16 +43,8 @@ module _ (timers : ℕ) (p : ℕ → Bool) where
   -- adding a timer's digit
   more : (b : Bool) (number w n : ℕ) → number + digit b * w + w * 2 * n ≡ number + w * (digit b + 2 * n)
   unfolding digit
-  more true number w n =
-      let a : w * (1 + 2 * n) ≡ w * 1 + w * (2 * n) = mul-add w 1 (2 * n) in
-      let d : w * 2 * n ≡ w * (2 * n) = mul-assoc w 2 n in
-      let one : w * 1 ≡ w = mul-one w in
-      omega arith
-  more false number w n =
-      let d : w * 2 * n ≡ w * (2 * n) = mul-assoc w 2 n in
-      let z : w * (0 + 2 * n) ≡ w * (2 * n) = ap (λ (x : ℕ). w * x) (zero-add (2 * n)) in
-      let none : 0 * w ≡ 0 = zero-mul w in
-      omega arith
+  more true number w n = omega (arith, mul-add w 1 (2 * n), mul-assoc w 2 n, mul-one w)
+  more false number w n = omega (arith, mul-assoc w 2 n, ap (λ (x : ℕ). w * x) (zero-add (2 * n)), zero-mul w)
 
   fewer : (b : Bool) (number w : ℕ) → number < w → number + digit b * w < w * 2
   unfolding digit
@@ -68,9 +60,7 @@ module _ (timers : ℕ) (p : ℕ → Bool) where
     place-small = omega (arith, c .room, size-turn)
 
     due-there : has all t ≡ p t
-    due-there =
-        has-those 64 timers p t (u .lowest .small)
-        ∙ ap (λ (b : Bool). b && p t) (is-true (has timers t) (c .part t (of-true (u .lowest .member))))
+    due-there = rw (has-those 64 timers p t (u .lowest .small), is-true (has timers t) (c .part t (of-true (u .lowest .member))))
 
     number-turn : dueNumber (members 64 rest) all ≡ digit (has all t) + 2 * dueNumber (members 64 rest′) all
     unfolding dueNumber
@@ -78,10 +68,8 @@ module _ (timers : ℕ) (p : ℕ → Bool) where
 
     built-turn : (b : Bool) → p t ≡ b → union set (digit b * 2 ^ t) ≡ minus all rest′
     unfolding digit
-    built-turn true e =
-        ap₂ union (c .built) (one-mul (2 ^ t)) ∙ those-add timers p u (c .part) e
-    built-turn false e =
-        ap₂ union (c .built) (zero-mul (2 ^ t)) ∙ or-zero-r (minus all rest) ∙ those-skip timers p u e
+    built-turn true e = ap₂ union (c .built) (one-mul (2 ^ t)) ∙ those-add timers p u (c .part) e
+    built-turn false e = ap₂ union (c .built) (zero-mul (2 ^ t)) ∙ or-zero-r (minus all rest) ∙ those-skip timers p u e
 
     pub number-small : number + digit (p t) * 2 ^ place < 2 ^ 64
     number-small =
@@ -97,14 +85,9 @@ module _ (timers : ℕ) (p : ℕ → Bool) where
           fits = u .fits;
           part = subset-turn timers u (c .part);
           built = built-turn (p t) refl;
-          small = subst (λ (x : ℕ). number + digit (p t) * 2 ^ place < x) (sym double) (fewer (p t) number (2 ^ place) (c .small));
+          small = rw double (fewer (p t) number (2 ^ place) (c .small));
           room = omega (arith, c .room, size-turn);
-          sum =
-              ap (λ (x : ℕ). number + digit (p t) * 2 ^ place + x * dueNumber (members 64 rest′) all) double
-              ∙ more (p t) number (2 ^ place) (dueNumber (members 64 rest′) all)
-              ∙ ap (λ (b : Bool). number + 2 ^ place * (digit b + 2 * dueNumber (members 64 rest′) all)) (sym due-there)
-              ∙ ap (λ (x : ℕ). number + 2 ^ place * x) (sym number-turn)
-              ∙ c .sum;
+          sum = rw double (more (p t) number (2 ^ place) (dueNumber (members 64 rest′) all) ∙ rw (← due-there, ← number-turn) (c .sum));
         }
 
   pub counted-done : {set number place rest : ℕ} → Counted set number place rest → rest ≡ 0
@@ -112,5 +95,5 @@ module _ (timers : ℕ) (p : ℕ → Bool) where
   unfolding dueNumber
   counted-done {set} {number} {place} {rest} c z = (
     c .built ∙ those-done 64 timers rest p z,
-    sym (ap (λ (x : ℕ). number + 2 ^ place * x) (ap (λ (r : ℕ). dueNumber (members 64 r) all) z ∙ ap (λ (l : List ℕ). dueNumber l all) (members-none 64)) ∙ ap (λ (x : ℕ). number + x) (mul-zero (2 ^ place)) ∙ add-zero number) ∙ c .sum,
+    rw (z, members-none, mul-zero, add-zero) at (c .sum),
   )

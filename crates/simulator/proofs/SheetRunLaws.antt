@@ -1,16 +1,16 @@
 -- The sheet run by deadlines: what is left from here, in a mode set by the deadlines now, gives what all gives from the start.
 -- Assumes nothing.
-use mathlib.Core.Path.{_≡_, refl, sym, ap, ap₂, _∙_, subst}
+use mathlib.Core.Path.{_≡_, refl, sym, ap, _∙_, subst}
 use mathlib.Core.Logic.{_⊎_, inl, inr}
-use mathlib.Core.Bool.{Bool, true, false, _&&_, cond, and-true}
+use mathlib.Core.Bool.{Bool, true, false, cond, and-true}
 use mathlib.Core.List.{List}
 use Prim.Native.Nat.{ℕ, _+_, _-_, _*_, _/_, _^_, _≤_, _<_, zero-le}
-use native.Mathlib.Nat.{le-of-lt, lt-of-lt-of-le}
+use native.Mathlib.Nat.{lt-of-lt-of-le}
 use native.Mathlib.Omega.{arith}
 use lib.Dec.{T, eqb}
 use lib.ListN.{length, getD}
 use Rattle.sets.specs.Sets.{has, meet, those}
-use Rattle.sets.proofs.Tests.{is-true, is-false, of-true}
+use Rattle.sets.proofs.Tests.{is-true, is-false}
 use Rattle.sets.proofs.Facts.{those-e}
 use Rattle.sets.proofs.Membership.{has-none, has-meet, those-lt, lt-of-members}
 use Rattle.sets.proofs.Members.{empty}
@@ -23,7 +23,7 @@ use Rattle.meaning.specs.Tick.{Tick, tick, fiveWords}
 use Rattle.meaning.specs.Run.{State, reading, dueTimers, stops, Run, ran}
 use Rattle.meaning.specs.SheetRun.{stateOk, tickFrom, stateAfter, sheetStep, sheetTicks, sheetRun}
 use Rattle.meaning.specs.Promises.{RunRounds}
-use Rattle.meaning.proofs.ListLaws.{row-at, rowFrom-length}
+use Rattle.meaning.proofs.ListLaws.{rowFrom-length}
 use Rattle.meaning.proofs.SheetLaws.{Sound, t-le}
 use Rattle.meaning.proofs.TickLaws.{stayed-or-entered, rounds-le, Runs, running-e, running-i}
 use Rattle.meaning.proofs.ReadingLaws.{delay-small, Right, right-next}
@@ -33,8 +33,8 @@ use Rattle.reaction.specs.Plan.{sourcesIn, timerDelay}
 use Rattle.reaction.specs.Rounds.{Before}
 use Rattle.reaction.proofs.PlanLaws.{has-sourcesIn}
 use Rattle.run.specs.Runs.{endedRun}
-use Rattle.run.proofs.DeadlineLaws.{stateFrom, reading-from, due-deadlines, state-word, state-next, state-start, start-within}
-use Rattle.run.proofs.LoopLaws.{Reached, reached-start, reached-end, reached-foreign, reached-refused, reached-turn}
+use Rattle.run.proofs.DeadlineLaws.{stateFrom, reading-from, state-next, deadline-after, state-start, start-within}
+use Rattle.run.proofs.LoopLaws.{reached-start, reached-turn, Timed, due-now, ends-refused}
 use Rattle.simulator.proofs.DelayLaws.{delay-at}
 use Rattle.simulator.proofs.SheetStateLaws.{admitted}
 
@@ -42,12 +42,21 @@ use Rattle.simulator.proofs.SheetStateLaws.{admitted}
 abbrev pub stateAt : List ℕ → ℕ → List ℕ → ℕ → State
 stateAt s x ends i = stateFrom x (running s x) ends i
 
+-- the deadline of a running timer is ahead, by its delay at most
+right-ahead : (s : List ℕ) → Sound s → (x : ℕ) (ends : List ℕ) (i : ℕ) → Right s (stateAt s x ends i)
+    → (t : ℕ) → T (has (running s x) t) → (i < getD ends t 0) × (getD ends t 0 ≤ i + 65535)
+unfolding Right reading
+right-ahead s sd x ends i r t h =
+    let on = running-e s x t h in
+    let e = reading-from (running s x) ends i t (lt-of-lt-of-le (on .small) (t-le s sd)) h in
+    let d = delay-small s sd t (on .small) (on .timer) in
+    (omega (arith, r t h .0), omega (arith, r t h .1))
+
 -- ---- input i is reached in the mode set x, by the deadlines ends
 
 pub record ReachedModes (s inputs out₀ : List ℕ) (q₀ : State) (out ends : List ℕ) (x live total i : ℕ) : Type 0 where
-  pub reached : Reached (kOf s) (sheetStep s) inputs out₀ q₀ out total i (stateAt s x ends i)
+  pub timed : Timed (kOf s) (sheetStep s) inputs out₀ q₀ out ends x (running s x) total i
   pub sound : Sound s
-  pub long : length ends ≡ 64
   pub sources : live ≡ sourcesIn s x
   pub right : Right s (stateAt s x ends i)
   pub few : total ≤ 64 * i
@@ -67,12 +76,13 @@ module _ (s : List ℕ) (sd : Sound s) (q : State) (ok : stateOk s q ≡ true) {
   pub start-modes : {inputs out : List ℕ} {live : ℕ} → live ≡ sourcesIn s (q .at) → 5 * length inputs ≤ length out
       → ReachedModes s inputs out (stateAt s (q .at) ends 0) out ends (q .at) live 0 0
   start-modes {inputs} {out} l room =
+      let right = subst (Right s) (sym start-state) start-right in
+      let reached = reached-start (kOf s) (sheetStep s) inputs out (stateAt s (q .at) ends 0) room in
       record {
-        reached = reached-start (kOf s) (sheetStep s) inputs out (stateAt s (q .at) ends 0) room;
+        timed = record { reached = reached; long = long; ahead = right-ahead s sd (q .at) ends 0 right };
         sound = sd;
-        long = long;
         sources = l;
-        right = subst (Right s) (sym start-state) start-right;
+        right = right;
         few = zero-le;
       }
 
@@ -82,17 +92,6 @@ module _ {s inputs out₀ : List ℕ} {q₀ : State} {out ends : List ℕ} {x li
 
   abbrev input : ℕ
   input = getD inputs i 0
-
-  small : {y t : ℕ} → Runs s y t → t < 64
-  small on = lt-of-lt-of-le (on .small) (t-le s (k .sound))
-
-  -- the deadline of a running timer is ahead, by its delay at most
-  ahead : (t : ℕ) → T (has (running s x) t) → (i < getD ends t 0) × (getD ends t 0 ≤ i + delay s t)
-  unfolding Right reading
-  ahead t h =
-      let r = k .right t h in
-      let e = reading-from (running s x) ends i t (small (running-e s x t h)) h in
-      (omega arith, omega arith)
 
   -- ---- the state that a tick leaves, by the deadlines then
 
@@ -111,15 +110,7 @@ module _ {s inputs out₀ : List ℕ} {q₀ : State} {out ends : List ℕ} {x li
       on = running-e s (z .modes) t h
 
       starts : has set t ≡ has (z .entered) (source s t)
-      starts =
-          ap (λ (y : ℕ). has y t) se ∙ has-meet (sourcesIn s (z .entered)) (running s (z .modes)) t
-          ∙ ap₂ _&&_ (has-sourcesIn s (z .entered) t (on .small)) (is-true (has (running s (z .modes)) t) h) ∙ and-true (has (z .entered) (source s t))
-
-      deadline-after : getD ends′ t 0 ≡ cond (has (z .entered) (source s t)) (i + 1 + delay s t) (getD ends t 0)
-      deadline-after =
-          let f : ℕ → ℕ = λ u. cond (has set u) (i + 1 + getD delays u 0) (getD ends u 0) in
-          ap (λ (r : List ℕ). getD r t 0) ee ∙ row-at 64 f t l
-          ∙ ap₂ (λ (b : Bool) (d : ℕ). cond b (i + 1 + d) (getD ends t 0)) starts (delay-at s ye t l on)
+      starts = rw (se, has-meet, has-sourcesIn s (z .entered) t (on .small), is-true (has (running s (z .modes)) t) h, and-true)
 
       -- a timer that runs and was not entered ran before
       ran-before : has (z .entered) (source s t) ≡ false → T (has (running s x) t)
@@ -133,7 +124,8 @@ module _ {s inputs out₀ : List ℕ} {q₀ : State} {out ends : List ℕ} {x li
 
       reading-after : getD ends′ t 0 - (i + 1) ≡ cond (has (z .entered) (source s t)) (delay s t) (reading (now .readings) t - 1)
       unfolding reading
-      reading-after = ap (λ (e : ℕ). e - (i + 1)) deadline-after ∙ at (has (z .entered) (source s t)) refl
+      reading-after =
+          ap (λ (e : ℕ). e - (i + 1)) (deadline-after set i delays ends ee t l starts (delay-at s ye t l on)) ∙ at (has (z .entered) (source s t)) refl
         where
           at : (b : Bool) → has (z .entered) (source s t) ≡ b
               → cond b (i + 1 + delay s t) (getD ends t 0) - (i + 1) ≡ cond b (delay s t) (getD (now .readings) t 0 - 1)
@@ -149,88 +141,68 @@ module _ {s inputs out₀ : List ℕ} {q₀ : State} {out ends : List ℕ} {x li
     unfolding sheetStep
     next-modes l b =
         let rounds : o .rounds ≤ tOf s = unfold tickFrom in (rounds-le s (dueTimers (running s x) (now .readings)) input x) in
+        let right = subst (Right s) (sym next-state) (right-next s (k .sound) now input (k .right) done) in
         record {
-          reached = rw next-state (reached-turn (kOf s) (sheetStep s) inputs out₀ q₀ (k .reached) l b done (five-long s now input));
+          timed = record {
+            reached = rw next-state (reached-turn (kOf s) (sheetStep s) inputs out₀ q₀ (k .timed .reached) l b done (five-long s now input));
+            long = ap length ee ∙ rowFrom-length (λ t. cond (has set t) (i + 1 + getD delays t 0) (getD ends t 0)) 0 64;
+            ahead = right-ahead s (k .sound) (z .modes) ends′ (i + 1) right;
+          };
           sound = k .sound;
-          long = ap length ee ∙ rowFrom-length (λ t. cond (has set t) (i + 1 + getD delays t 0) (getD ends t 0)) 0 64;
           sources = refl;
-          right = subst (Right s) (sym next-state) (right-next s (k .sound) now input (k .right) done);
+          right = right;
           few = omega (arith, k .few, t-le s (k .sound));
         }
 
-  -- ---- the timers that run, as the code has them
+  -- ---- the tick: its due timers are those whose deadline it is
 
-  module _ {timers : ℕ} (te : timers ≡ running s x) where
-    -- no deadline of theirs is past
-    pub later : (t : ℕ) → has timers t ≡ true → i ≤ getD ends t 0
-    later t e = le-of-lt (ahead t (of-true (ap (λ (y : ℕ). has y t) (sym te) ∙ e)) .0)
+  module _ {timers d : ℕ} (te : timers ≡ running s x) (de : d ≡ those 64 timers (λ t. eqb (getD ends t 0) (i + 1))) where
+    due-is : d ≡ dueTimers (running s x) (now .readings)
+    due-is = due-now (k .timed) te de
 
-    -- what a run that ends now returns
-    ends-now : (e : ℕ) → endedRun ends x timers i total e out ≡ record { done = i; state = now; refusal = e; rounds = total; out = out }
-    ends-now e =
-        ap (λ (y : ℕ). endedRun ends x y i total e out) te
-        ∙ ap (λ (q : State). record { done = i; state = q; refusal = e; rounds = total; out = out })
-        (state-word (running s x) ends i x (λ t l h.
-        let on = running-e s x t h in
-        omega (arith, ahead t h .1, delay-small s (k .sound) t (on .small) (on .timer))))
+    due-word : d < 2 ^ 64
+    unfolding dueTimers
+    due-word = rw due-is (those-lt 64 (running s x) _)
 
-    pub ends-done : length inputs ≤ i → endedRun ends x timers i total 0 out ≡ ran out₀ (sheetTicks s inputs q₀)
-    ends-done l = ends-now 0 ∙ reached-end (kOf s) (sheetStep s) inputs out₀ q₀ (k .reached) l
+    runs : (t : ℕ) → T (has d t) → Runs s x t
+    unfolding dueTimers
+    runs t m = running-e s x t (those-e 64 (running s x) _ t (rw due-is at m) .1)
 
-    pub ends-foreign : i < length inputs → (input / 2 ^ kOf s ≡ 0 → ⊥) → endedRun ends x timers i total 13 out ≡ ran out₀ (sheetTicks s inputs q₀)
-    ends-foreign l n = ends-now 13 ∙ reached-foreign (kOf s) (sheetStep s) inputs out₀ q₀ (k .reached) l n
+    pub tick-begins : Before s x live d
+    tick-begins =
+        record {
+          sources = k .sources;
+          small = lt-of-members 64 (tOf s) d due-word (λ t l _. is-false (has d t) (λ m. let on = runs t m in omega (arith, on .small)));
+          timing = λ t m. runs t m .timer;
+          none =
+              λ e. empty 64 due-word (λ t l.
+              is-false (has d t) (λ m. subst T (ap (λ (y : ℕ). has y (source s t)) e ∙ has-none (source s t)) (runs t m .on)));
+        }
 
-    -- ---- the tick: its due timers are those whose deadline it is
+    module _ (l : i < length inputs) (b : input / 2 ^ kOf s ≡ 0) {r : Tick} (re : r ≡ tick s x d input) where
+      tick-now : r ≡ o
+      unfolding tickFrom
+      tick-now = re ∙ ap (λ (y : ℕ). tick s x y input) due-is
 
-    module _ {d : ℕ} (de : d ≡ those 64 timers (λ t. eqb (getD ends t 0) (i + 1))) where
-      due-is : d ≡ those 64 (running s x) (λ t. eqb (getD ends t 0) (i + 1))
-      due-is = de ∙ ap (λ (y : ℕ). those 64 y (λ t. eqb (getD ends t 0) (i + 1))) te
+      pub tick-refused : (r .refusal ≡ 0 → ⊥) → endedRun ends x timers i total (r .refusal) out ≡ ran out₀ (sheetTicks s inputs q₀)
+      unfolding sheetStep
+      tick-refused n = ends-refused (k .timed) te l b (ap (λ (y : Tick). y .refusal) (sym tick-now)) n
 
-      due-word : d < 2 ^ 64
-      due-word = rw due-is (those-lt 64 (running s x) (λ t. eqb (getD ends t 0) (i + 1)))
-
-      runs : (t : ℕ) → T (has d t) → Runs s x t
-      runs t m =
-          running-e s x t (those-e 64 (running s x) (λ u. eqb (getD ends u 0) (i + 1)) t (subst (λ (y : ℕ). T (has y t)) due-is m) .1)
-
-      pub tick-begins : Before s x live d
-      tick-begins =
-          record {
-            sources = k .sources;
-            small = lt-of-members 64 (tOf s) d due-word (λ t l _. is-false (has d t) (λ m. let on = runs t m in omega (arith, on .small)));
-            timing = λ t m. runs t m .timer;
-            none =
-                λ e. empty 64 due-word (λ t l.
-                is-false (has d t) (λ m. subst T (ap (λ (y : ℕ). has y (source s t)) e ∙ has-none (source s t)) (runs t m .on)));
-          }
-
-      module _ (l : i < length inputs) (b : input / 2 ^ kOf s ≡ 0) {r : Tick} (re : r ≡ tick s x d input) where
-        tick-now : r ≡ o
-        unfolding tickFrom
-        tick-now =
-            re ∙ ap (λ (y : ℕ). tick s x y input) (due-is ∙ due-deadlines (running s x) ends i (λ t _ h. ahead t h .0))
-
-        pub ends-refused : (r .refusal ≡ 0 → ⊥) → endedRun ends x timers i total (r .refusal) out ≡ ran out₀ (sheetTicks s inputs q₀)
-        unfolding sheetStep
-        ends-refused n =
-            ends-now (r .refusal) ∙ reached-refused (kOf s) (sheetStep s) inputs out₀ q₀ (k .reached) l b (ap (λ (y : Tick). y .refusal) (sym tick-now)) n
-
-        pub next-turn : r .refusal ≡ 0 → {set live′ total′ : ℕ} {delays out′ ends′ : List ℕ}
-            → set ≡ meet (sourcesIn s (r .sets .entered)) (running s (r .sets .modes)) → delays ≡ rowFrom 0 64 (timerDelay s)
-            → ends′ ≡ rowFrom 0 64 (λ t. cond (has set t) (i + 1 + getD delays t 0) (getD ends t 0))
-            → out′ ≡ over out (5 * i) (fiveWords (r .sets)) → live′ ≡ sourcesIn s (r .sets .modes) → total′ ≡ total + r .rounds
-            → ReachedModes s inputs out₀ q₀ out′ ends′ (r .sets .modes) live′ total′ (i + 1)
-        next-turn n se ye ee oe le tt =
-            rw (oe, le, tt, tick-now) (next-modes (sym (ap (λ (y : Tick). y .refusal) tick-now) ∙ n) (rw tick-now at se) ye ee l b)
+      pub next-turn : r .refusal ≡ 0 → {set live′ total′ : ℕ} {delays out′ ends′ : List ℕ}
+          → set ≡ meet (sourcesIn s (r .sets .entered)) (running s (r .sets .modes)) → delays ≡ rowFrom 0 64 (timerDelay s)
+          → ends′ ≡ rowFrom 0 64 (λ t. cond (has set t) (i + 1 + getD delays t 0) (getD ends t 0))
+          → out′ ≡ over out (5 * i) (fiveWords (r .sets)) → live′ ≡ sourcesIn s (r .sets .modes) → total′ ≡ total + r .rounds
+          → ReachedModes s inputs out₀ q₀ out′ ends′ (r .sets .modes) live′ total′ (i + 1)
+      next-turn n se ye ee oe le tt =
+          rw (oe, le, tt, tick-now) (next-modes (sym (ap (λ (y : Tick). y .refusal) tick-now) ∙ n) (rw tick-now at se) ye ee l b)
 
 -- ---- the whole run: at most T rounds for each done tick
 
 module _ (s inputs out : List ℕ) (q : State) where
-  run-few : sheetRun s q inputs out .rounds ≤ tOf s * sheetRun s q inputs out .done
-  unfolding sheetRun ran stops RunRounds
-  run-few =
-      run-all (kOf s) (sheetStep s) (sheetRefusal s) (stateOk s q) q inputs out (λ r. r .rounds ≤ tOf s * r .done) (λ e. zero-le) (run-rounds s inputs q)
-
   pub answered : {r : Run} {low : ℕ} → r ≡ sheetRun s q inputs out → low < 2 ^ 32
       → (r ≡ sheetRun s q inputs out) × (r .rounds ≤ tOf s * r .done) × (low < 2 ^ 32)
-  answered e l = (e, rw e run-few, l)
+  unfolding sheetRun ran stops RunRounds
+  answered e l =
+      let few =
+      run-all (kOf s) (sheetStep s) (sheetRefusal s) (stateOk s q) q inputs out (λ r. r .rounds ≤ tOf s * r .done) (λ e. zero-le) (run-rounds s inputs q) in
+      (e, rw e few, l)

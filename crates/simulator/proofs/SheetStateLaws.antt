@@ -1,18 +1,16 @@
 -- Refusal 14 of a sheet run: a fresh state, or a consistent set with readings tested against the delays of the timers. Assumes
 -- nothing.
 use mathlib.Core.Path.{_≡_, sym, ap, _∙_}
-use mathlib.Core.Bool.{true, false, _&&_, and-false, or-false}
+use mathlib.Core.Bool.{true, false, and-false, or-false}
 use mathlib.Core.List.{List}
 use Prim.Native.Nat.{ℕ, _^_, _<_}
 use native.Mathlib.Decide.{ℕ-discrete}
-use lib.Dec.{T, eqb, leb, ltb}
+use lib.Dec.{T, eqb, ltb}
 use lib.ListN.{getD}
 use borrow.Author.Tests.{ne-eqb}
-use Rattle.sets.specs.Sets.{has, every}
-use Rattle.sets.proofs.Tests.{is-true, of-true, and-r, cond-ext}
-use Rattle.sets.proofs.Facts.{every-e}
+use Rattle.sets.specs.Sets.{every}
+use Rattle.sets.proofs.Tests.{is-true, of-true, and-r}
 use Rattle.sets.proofs.Membership.{has-none}
-use Rattle.sets.proofs.Quantifiers.{every-same}
 use Rattle.meaning.specs.Lists.{rowFrom, allOf}
 use Rattle.meaning.specs.Sheet.{nOf}
 use Rattle.meaning.specs.Hierarchy.{consistent}
@@ -20,7 +18,7 @@ use Rattle.meaning.specs.Reaction.{delay, running}
 use Rattle.meaning.specs.Run.{State, reading, isFresh, readingsOk}
 use Rattle.meaning.specs.SheetRun.{stateOk}
 use Rattle.meaning.proofs.TickLaws.{running-e, running-none}
-use Rattle.run.proofs.ReadingTests.{readingFits, readings-ok-def}
+use Rattle.run.proofs.ReadingTests.{readingFits, readings-sound, readings-none, delays-serve}
 use Rattle.reaction.specs.Plan.{timerDelay}
 use Rattle.simulator.proofs.DelayLaws.{delay-at}
 
@@ -39,35 +37,25 @@ module _ (s : List ℕ) (q : State) where
   fresh-ok : q .at ≡ 0 → readingsOk timers (delay s) readings ≡ stateOk s q
   unfolding stateOk isFresh reading consistent allOf
   fresh-ok e =
-      readings-ok-def timers (delay s) readings
-      ∙ every-same 64 (readingFits timers (delay s) readings) (λ t. eqb (getD readings t 0) 0) (λ t l. rw (e, running-none s, has-none t))
+      readings-none timers (delay s) readings (ap (running s) e ∙ running-none s)
       ∙ rw (e, has-none 0, and-false (ltb 0 (2 ^ nOf s))) (sym (or-false (every 64 (λ t. eqb (getD readings t 0) 0))))
-
-  consistent-ok : (q .at ≡ 0 → ⊥) → consistent s (q .at) ≡ true → readingsOk timers (delay s) readings ≡ stateOk s q
-  unfolding stateOk isFresh
-  consistent-ok n e = rw (ne-eqb (q .at) 0 n, e)
 
   -- the delays of the running timers stand among the delays
   module _ {delays : List ℕ} (d : delays ≡ rowFrom 0 64 (timerDelay s)) where
-    delays-serve : readingsOk timers (λ t. getD delays t 0) readings ≡ readingsOk timers (delay s) readings
-    delays-serve =
-        readings-ok-def timers (λ t. getD delays t 0) readings
-        ∙ every-same 64 (readingFits timers (λ t. getD delays t 0) readings) (readingFits timers (delay s) readings) (λ t l.
-        let v = getD readings t 0 in
-        cond-ext (has timers t) (leb 1 v && leb v (getD delays t 0)) (leb 1 v && leb v (delay s t)) (eqb v 0) (λ r.
-        ap (λ (y : ℕ). leb 1 v && leb v y) (delay-at s d t l (running-e s (q .at) t r))))
-        ∙ sym (readings-ok-def timers (delay s) readings)
+    serve : readingsOk timers (λ t. getD delays t 0) readings ≡ readingsOk timers (delay s) readings
+    serve = delays-serve timers (delay s) readings (λ t. getD delays t 0) (λ t l r. delay-at s d t l (running-e s (q .at) t r))
 
     pub state-fresh : q .at ≡ 0 → readingsOk timers (λ t. getD delays t 0) readings ≡ stateOk s q
-    state-fresh e = delays-serve ∙ fresh-ok e
+    state-fresh e = serve ∙ fresh-ok e
 
     pub state-consistent : (q .at ≡ 0 → ⊥) → consistent s (q .at) ≡ true → readingsOk timers (λ t. getD delays t 0) readings ≡ stateOk s q
-    state-consistent n e = delays-serve ∙ consistent-ok n e
+    unfolding stateOk isFresh
+    state-consistent n e = serve ∙ rw (ne-eqb (q .at) 0 n, e)
 
   -- of a state that is not refused the readings are sound
   pub admitted : stateOk s q ≡ true → (t : ℕ) → t < 64 → T (readingFits timers (delay s) readings t)
   unfolding stateOk isFresh
-  admitted ok = every-e 64 (readingFits timers (delay s) readings) (of-true (sym (readings-ok-def timers (delay s) readings) ∙ go (ℕ-discrete (q .at) 0)))
+  admitted ok = readings-sound timers (delay s) readings (go (ℕ-discrete (q .at) 0))
     where
       go : Dec (q .at ≡ 0) → readingsOk timers (delay s) readings ≡ true
       go (yes e) = fresh-ok e ∙ ok

@@ -1,13 +1,14 @@
 -- `recorder::table_run::run` meets its contract: each way out is a case of `tableRun`, in its order. Assumes nothing.
 use mathlib.Core.Path.{_≡_, _∙_}
-use mathlib.Core.Bool.{true}
+use mathlib.Core.Bool.{true, not}
 use native.Mathlib.Omega.{arith}
 use borrow.Author.Needs.{needs}
 use Rattle.sets.proofs.Loops.{passed, failed}
 use Rattle.meaning.specs.Table.{tableOk}
-use Rattle.meaning.specs.TableRun.{tableStateOk}
+use Rattle.meaning.specs.Lists.{refusedIf}
+use Rattle.meaning.specs.TableRun.{tableStateOk, tableRun}
 use Rattle.run.specs.States.{stateOf}
-use Rattle.recorder.proofs.TableRunLaws.{run-bad-table, run-bad-state, run-short, run-ticks}
+use Rattle.run.proofs.LoopLaws.{stopped-refused, stopped-state, stopped-short, goes-on}
 use Rattle.recorder.proofs.table_run.run.Statement.{statement}
 use Rattle.recorder.proofs.table_run.run.Tie as tie
 
@@ -25,6 +26,10 @@ ready c = c .before .before .before
 sound : (c : tie.Else1) → tableOk (entry (c .before) .args .table .now) ≡ true
 sound c = passed (c .before .table-ok .ensures) (c .if1 .left)
 
+no-refusal : (c : tie.Else1) → refusedIf (not (tableOk (entry (c .before) .args .table .now))) 15 ≡ 0
+unfolding refusedIf
+no-refusal c = rw (sound c)
+
 -- the state is sound
 state-sound : (c : tie.Else2) → let a = entry (checked (c .before) .before) .args in tableStateOk (a .table .now) (stateOf (a .state)) ≡ true
 state-sound c = passed (c .before .state-ok .ensures) (c .if2 .left)
@@ -36,10 +41,10 @@ stops-requires : tie.Need-stops-requires
 stops-requires c κs = search needs
 
 returns : tie.Need-returns
+unfolding tableRun refusedIf
 returns c =
-    let a = entry (c .before .before) .args in
-    c .stops .ensures (a .out .now)
-    ∙ run-bad-table (a .table .now) (a .inputs .now) (a .out .now) (stateOf (a .state)) (failed (c .before .before .table-ok .ensures) (c .before .if1 .taken))
+    c .stops .ensures _
+    ∙ stopped-refused _ _ _ _ _ _ _ (rw (failed (c .before .before .table-ok .ensures) (c .before .if1 .taken))) (λ z. omega arith)
 
 delays-requires : tie.Need-delays-requires
 delays-requires c κs = sound c
@@ -51,22 +56,20 @@ stops-requires-2 : tie.Need-stops-requires-2
 stops-requires-2 c κs = search needs
 
 returns-2 : tie.Need-returns-2
+unfolding tableRun
 returns-2 c =
-    let on = checked (c .before .before) in
-    let a = entry (on .before) .args in
-    c .stops2 .ensures (a .out .now)
-    ∙ run-bad-state (a .table .now) (a .inputs .now) (a .out .now) (stateOf (a .state)) (sound on) (failed (c .before .before .state-ok .ensures) (c .before .if2 .taken))
+    let state = c .before .before in
+    c .stops2 .ensures _
+    ∙ stopped-state _ _ _ _ _ _ _ (no-refusal (checked state)) (failed (state .state-ok .ensures) (c .before .if2 .taken))
 
 stops-requires-3 : tie.Need-stops-requires-3
 stops-requires-3 c κs = search needs
 
 returns-3 : tie.Need-returns-3
+unfolding tableRun
 returns-3 c =
     let state = c .before .before in
-    let on = checked (state .before) in
-    let a = entry (on .before) .args in
-    c .stops3 .ensures (a .out .now)
-    ∙ run-short (a .table .now) (a .inputs .now) (a .out .now) (stateOf (a .state)) (sound on) (state-sound state) (c .before .if3 .taken)
+    c .stops3 .ensures _ ∙ stopped-short _ _ _ _ _ _ _ (no-refusal (checked (state .before))) (state-sound state) (c .before .if3 .taken)
 
 ticks-requires : tie.Need-ticks-requires
 ticks-requires c κs =
@@ -79,14 +82,12 @@ same-length : tie.Need-same-length
 same-length c = search needs
 
 returns-4 : tie.Need-returns-4
+unfolding tableRun
 returns-4 c =
-    let end = c .before .before in
-    let room = ready end in
+    let room = ready (c .before .before) in
     let state = room .before in
-    let on = checked (state .before) in
-    let a = entry (on .before) .args in
-    end .ticks .ensures
-    ∙ run-ticks (a .table .now) (a .inputs .now) (a .out .now) (stateOf (a .state)) (sound on) (state-sound state) (omega (arith, room .if3 .left))
+    c .before .before .ticks .ensures
+    ∙ goes-on _ _ _ _ _ _ _ (no-refusal (checked (state .before))) (state-sound state) (omega (arith, room .if3 .left))
 
 pub run-spec : {M : Type 1} → statement M
 run-spec =

@@ -14,17 +14,16 @@ use Rattle.sets.specs.Sets.{has, meet, minus}
 use Rattle.sets.proofs.Tests.{of-true}
 use Rattle.rows.specs.Over.{over}
 use Rattle.meaning.specs.Table.{timersIn}
-use Rattle.meaning.specs.Run.{State, ran}
-use Rattle.meaning.specs.TableRun.{tableTicks}
+use Rattle.meaning.specs.Run.{State}
 use Rattle.run.specs.States.{stateOf}
-use Rattle.run.proofs.LoopLaws.{input-below}
+use Rattle.run.proofs.LoopLaws.{input-below, later, ends-done, ends-foreign}
 use Rattle.table.proofs.LayoutFacts.{head-sound, k-le}
 use Rattle.recorder.specs.declared.table_run.TableBlock.{TableBlock}
 use Rattle.recorder.specs.Runs.{TableBlockOf}
 use Rattle.recorder.proofs.TimerLaws.{delays-small}
 use Rattle.recorder.proofs.TableStateLaws.{admitted}
 use Rattle.recorder.proofs.RestartLaws.{from-word}
-use Rattle.recorder.proofs.TableRunLaws.{stateAt, Known, ReachedBlock, start-block, start-state, later, ends-done, ends-foreign, number-small}
+use Rattle.recorder.proofs.TableRunLaws.{stateAt, Known, ReachedBlock, start-block, start-state, number-small}
 use Rattle.recorder.proofs.TableRunLaws.{Chosen, cell-room, next-below, turn-stays, ends-stale, turn-moves}
 use Rattle.recorder.proofs.table_run.ticks.Statement.{statement}
 use Rattle.recorder.proofs.table_run.ticks.Tie as tie
@@ -87,25 +86,16 @@ short c = let s = start (c .before) in omega (arith, c .loop-test .taken, s .goo
 
 -- no deadline of a running timer is past
 not-past : (c : tie.At-loop Inv-loop μ-loop) (t : ℕ) → has (c .loop .b .timers) t ≡ true → c .loop .i ≤ getD (c .loop .ends) t 0
-not-past c = later (c .loop .inv .1) (c .loop .inv .2 .1)
+not-past c = later (c .loop .inv .1 .timed) (c .loop .inv .2 .1)
 
--- the state by the block and the deadlines at the start, and the run from there
+-- the state by the block and the deadlines at the start is the start
 abbrev first : tie.At-loop Inv-loop μ-loop → State
 first c = stateAt (start c .args .table .now) (c .before .block-at .result .number) (made c .deadlines .result) 0
 
-long : (c : tie.After-deadlines Inv-loop μ-loop) → length (c .deadlines .result) ≡ 64
-long c = search needs
-
-from-start : (c : tie.At-loop Inv-loop μ-loop)
-    → let a = start c .args in
-    ran (a .out .now) (tableTicks (a .table .now) (a .inputs .now) (first c))
-    ≡ ran (a .out .now) (tableTicks (a .table .now) (a .inputs .now) (stateOf (a .start)))
+from-start : (c : tie.At-loop Inv-loop μ-loop) → first c ≡ stateOf (start c .args .start)
 from-start c =
     let s = start c in
-    let a = s .args in
-    ap (λ (q : State). ran (a .out .now) (tableTicks (a .table .now) (a .inputs .now) q))
-    (start-state (a .table .now) (a .inputs .now) (a .out .now) (of-true (s .pre .0)) (stateOf (a .start)) (s .pre .2)
-    (c .before .block-at .ensures .0) (made c .deadlines .ensures) (long (made c)))
+    start-state _ (of-true (s .pre .0)) (stateOf (s .args .start)) (s .pre .2) (c .before .block-at .ensures .0) (made c .deadlines .ensures) (search needs)
 
 -- the cell, by the due timers and the input set
 chosen : (c : tie.After-cell-number Inv-loop μ-loop)
@@ -162,7 +152,6 @@ loop-holds c =
     let on = c .before in
     let count = counted on in
     let s = entry count in
-    let a = s .args in
     let b = c .block-at in (
       record {
         sound = of-true (s .pre .0);
@@ -171,8 +160,8 @@ loop-holds c =
         timersAre = on .before .before .before .before .timers-from .ensures;
         sourcesAre = on .before .before .sources .ensures;
       },
-      start-block (a .table .now) (a .inputs .now) (a .out .now) (of-true (s .pre .0)) (stateOf (a .start)) (s .pre .2)
-          (b .ensures .0) (on .deadlines .ensures) (long on) (omega (arith, b .ok, b .ensures .1 .1)) (s .pre .3),
+      start-block _ (of-true (s .pre .0)) (stateOf (s .args .start)) (s .pre .2)
+          (b .ensures .0) (on .deadlines .ensures) (search needs) (omega (arith, b .ok, b .ensures .1 .1)) (s .pre .3),
       b .ensures .1,
     )
 
@@ -199,8 +188,8 @@ returns c =
     let inv = at .loop .inv in
     let input = getD (start at .args .inputs .now) (at .loop .i) 0 in
     c .ended .ensures (at .loop .out)
-    ∙ ends-foreign (inv .1) (inv .2 .1) (test .loop-test .taken) (λ e. foreign .if1 .taken (ap (λ (k : ℕ). input / 2 ^ k) (inv .0 .eventsAre) ∙ e))
-    ∙ from-start at
+    ∙ rw (from-start at) at (ends-foreign (inv .1 .timed) (inv .2 .1) (test .loop-test .taken)
+    (λ e. foreign .if1 .taken (ap (λ (k : ℕ). input / 2 ^ k) (inv .0 .eventsAre) ∙ e)))
 
 add-now : tie.Need-add-now Inv-loop μ-loop
 add-now c = search needs
@@ -256,7 +245,7 @@ ended-requires-2 : tie.Need-ended-requires-2 Inv-loop μ-loop
 ended-requires-2 c κs = not-past (head (left (c .before .before)))
 
 same-length-2 : tie.Need-same-length-2 Inv-loop μ-loop
-same-length-2 c = omega (arith, head (left (c .before .before .before)) .loop .inv .1 .reached .same)
+same-length-2 c = omega (arith, head (left (c .before .before .before)) .loop .inv .1 .timed .reached .same)
 
 returns-2 : tie.Need-returns-2 Inv-loop μ-loop
 returns-2 c =
@@ -265,17 +254,16 @@ returns-2 c =
     let at = head cell in
     let to = moved stale .block-at2 in
     c .ended2 .ensures (at .loop .out)
-    ∙ ends-stale (chosen cell) (at .loop .inv .0)
+    ∙ rw (from-start at) at (ends-stale (chosen cell) (at .loop .inv .0)
     (to .ensures .0) (omega (arith, to .ok)) (to .ensures .1 .1) (ap (meet (to .result .timers)) (stale .before .before .before .started .ensures))
     (ap (λ (x : ℕ). not (eqb (minus x (minus (at .loop .b .timers) (cell .before .due .result .set))) 0)) (sym (stale .before .minus .ensures))
-    ∙ sym (stale .is-stale .ensures) ∙ c .before .before .if5 .taken)
-    ∙ from-start at
+    ∙ sym (stale .is-stale .ensures) ∙ c .before .before .if5 .taken))
 
 restart-requires : tie.Need-restart-requires Inv-loop μ-loop
 restart-requires c κs =
     let cell = left (c .before .before) in
     let inv = head cell .loop .inv in (
-      inv .1 .long,
+      inv .1 .timed .long,
       omega (arith, short (inside (below cell))),
       λ t l. omega (arith, ap (λ (r : List ℕ). getD r t 0) (inv .0 .delaysAre), delays-small _ (inv .0 .sound) t l),
     )
@@ -289,7 +277,7 @@ five-at-requires c κs = room (numbered (c .before .before)) .0
 put-five-requires : tie.Need-put-five-requires Inv-loop μ-loop
 put-five-requires c κs =
     let on = inside (below (numbered (c .before .before .before))) in
-    omega (arith, on .loop-test .taken, on .before .loop .inv .1 .reached .room)
+    omega (arith, on .loop-test .taken, on .before .loop .inv .1 .timed .reached .room)
 
 add-i : tie.Need-add-i Inv-loop μ-loop
 add-i c = omega (arith, short (inside (below (done c))))
@@ -332,7 +320,7 @@ returns-3 : tie.Need-returns-3 Inv-loop μ-loop
 returns-3 c =
     let over = c .before .before in
     let at = over .before in
-    c .ended3 .ensures (at .loop .out) ∙ ends-done (at .loop .inv .1) (at .loop .inv .2 .1) (over .loop-test .left) ∙ from-start at
+    c .ended3 .ensures (at .loop .out) ∙ rw (from-start at) at (ends-done (at .loop .inv .1 .timed) (at .loop .inv .2 .1) (over .loop-test .left))
 
 pub ticks-spec : {M : Type 1} → statement M
 ticks-spec =

@@ -7,7 +7,8 @@ use native.Mathlib.Omega.{arith}
 use Rattle.sets.proofs.Tests.{of-true}
 use Rattle.meaning.specs.Lists.{rowFrom}
 use Rattle.table.proofs.LayoutFacts.{head-sound, t-le}
-use Rattle.recorder.proofs.TimerLaws.{delaysBelow, delays-start, delays-turn, delays-done}
+use Rattle.recorder.specs.Timers.{timerDelayIn}
+use Rattle.recorder.proofs.TimerLaws.{delaysBelow, delays-start, delays-turn}
 use Rattle.recorder.proofs.timers.delays.Statement.{statement}
 use Rattle.recorder.proofs.timers.delays.Tie as tie
 
@@ -52,10 +53,10 @@ loop-again c =
     )
 
 returns : tie.Need-returns Inv-loop μ-loop
+unfolding timerDelayIn
 returns c =
     let l = c .before .loop in
-    let a = c .before .before .before .before .args in
-    l .inv .2 ∙ delays-done (a .table .now) (l .t) (le-antisymm (l .inv .0) (c .loop-test .left) ∙ c .before .before .transition-count .ensures)
+    rw (le-antisymm (l .inv .0) (c .loop-test .left) ∙ c .before .before .transition-count .ensures) at (l .inv .2)
 
 pub delays-spec : {M : Type 1} → statement M
 delays-spec =

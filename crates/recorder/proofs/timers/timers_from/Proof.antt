@@ -8,8 +8,8 @@ use native.Mathlib.Omega.{arith}
 use Rattle.sets.proofs.Tests.{of-true}
 use Rattle.meaning.specs.Lists.{rowFrom}
 use Rattle.table.proofs.LayoutFacts.{head-sound, t-le, source-lt}
-use Rattle.recorder.specs.Timers.{timersBelow}
-use Rattle.recorder.proofs.TimerLaws.{timers-start, timers-skip, timers-add, timers-done}
+use Rattle.recorder.specs.Timers.{timersBelow, timersFrom}
+use Rattle.recorder.proofs.TimerLaws.{timers-start, timers-skip, timers-add}
 use Rattle.recorder.proofs.timers.timers_from.Statement.{statement}
 use Rattle.recorder.proofs.timers.timers_from.Tie as tie
 
@@ -94,10 +94,10 @@ loop-again c =
     )
 
 returns : tie.Need-returns Inv-loop μ-loop
+unfolding timersFrom
 returns c =
     let l = c .before .loop in
-    let a = entry (c .before .before) .args in
-    l .inv .2 ∙ timers-done (a .table .now) (l .t) (le-antisymm (l .inv .0) (c .loop-test .left) ∙ c .before .before .transition-count .ensures)
+    rw (le-antisymm (l .inv .0) (c .loop-test .left) ∙ c .before .before .transition-count .ensures) at (l .inv .2)
 
 pub timers-from-spec : {M : Type 1} → statement M
 timers-from-spec =

@@ -1,6 +1,6 @@
 -- `run::deadlines::readings_at` meets its contract: the running timers that are left are those whose readings are
 -- still to be stored. Assumes nothing.
-use mathlib.Core.Path.{_≡_, refl, sym, _∙_}
+use mathlib.Core.Path.{_≡_, refl, _∙_}
 use mathlib.Core.Bool.{cond}
 use mathlib.Core.List.{List}
 use borrow.Author.Needs.{needs}
@@ -82,7 +82,7 @@ returns : tie.Need-returns Inv-loop μ-loop
 returns c =
     let l = c .before .loop in
     let a = c .before .before .args in
-    sym (filled-done (readingAt (a .ends .now) (a .tick)) (l .r) (l .rest) (c .loop-test .left) (l .inv .2)) ∙ l .inv .3
+    filled-done (readingAt (a .ends .now) (a .tick)) (l .r) (l .rest) (c .loop-test .left) (l .inv .2) ∙ l .inv .3
 
 pub readings-at-spec : {M : Type 1} → statement M
 readings-at-spec =

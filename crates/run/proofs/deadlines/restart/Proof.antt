@@ -1,6 +1,6 @@
 -- `run::deadlines::restart` meets its contract: the timers of the set that are left are those whose deadlines are
 -- still to be stored. Assumes nothing.
-use mathlib.Core.Path.{_≡_, refl, sym, _∙_}
+use mathlib.Core.Path.{_≡_, refl, _∙_}
 use mathlib.Core.List.{List}
 use borrow.Author.Needs.{needs}
 use Prim.Native.Nat.{ℕ, _+_, _^_, _<_}
@@ -67,7 +67,7 @@ returns : tie.Need-returns Inv-loop μ-loop
 returns c =
     let l = c .before .loop in
     let a = c .before .before .args in
-    sym (filled-done (deadline (a .delays .now) (a .tick)) (l .ends) (l .rest) (c .loop-test .left) (l .inv .1)) ∙ l .inv .2
+    filled-done (deadline (a .delays .now) (a .tick)) (l .ends) (l .rest) (c .loop-test .left) (l .inv .1) ∙ l .inv .2
 
 pub restart-spec : {M : Type 1} → statement M
 restart-spec =

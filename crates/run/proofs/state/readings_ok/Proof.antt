@@ -10,7 +10,8 @@ use lib.Dec.{leb, eqb}
 use lib.ListN.{getD}
 use Rattle.sets.specs.Sets.{every}
 use Rattle.sets.proofs.Loops.{every-start, every-next, every-fails, every-done}
-use Rattle.run.proofs.ReadingTests.{readingFits, readings-ok-def}
+use Rattle.meaning.specs.Run.{reading, readingsOk}
+use Rattle.run.proofs.ReadingTests.{readingFits}
 use Rattle.run.proofs.state.readings_ok.Statement.{statement}
 use Rattle.run.proofs.state.readings_ok.Tie as tie
 
@@ -62,11 +63,12 @@ said c =
     c .reading-ok .ensures ∙ ap (λ (b : Bool). cond b (leb 1 v && leb v most) (eqb v 0)) (c .before .before .before .has .ensures)
 
 returns : tie.Need-returns Inv-loop μ-loop
+unfolding readingsOk reading
 returns c =
     let at = head (c .before) in
     let a = at .before .args in
-    sym (readings-ok-def _ _ _
-    ∙ every-fails (fits (a .delays .now) (a .timers) (a .readings .now)) 64 (at .loop .t) (omega arith) (sym (said (c .before)) ∙ not-true _ (c .if1 .taken)))
+    sym (every-fails (fits (a .delays .now) (a .timers) (a .readings .now)) 64 (at .loop .t) (omega arith)
+    (sym (said (c .before)) ∙ not-true _ (c .if1 .taken)))
 
 add-t : tie.Need-add-t Inv-loop μ-loop
 add-t c = search needs
@@ -82,10 +84,11 @@ loop-again c =
     (omega arith, every-next (fits (a .delays .now) (a .timers) (a .readings .now)) (l .t) (l .inv .1) (sym (said (c .before)) ∙ not-false _ (c .if1 .left)))
 
 returns-2 : tie.Need-returns-2 Inv-loop μ-loop
+unfolding readingsOk reading
 returns-2 c =
     let l = c .before .loop in
     let a = c .before .before .args in
-    sym (readings-ok-def _ _ _ ∙ every-done (fits (a .delays .now) (a .timers) (a .readings .now)) 64 (l .t) (l .inv .0) (c .loop-test .left) (l .inv .1))
+    sym (every-done (fits (a .delays .now) (a .timers) (a .readings .now)) 64 (l .t) (l .inv .0) (c .loop-test .left) (l .inv .1))
 
 pub readings-ok-spec : {M : Type 1} → statement M
 readings-ok-spec =

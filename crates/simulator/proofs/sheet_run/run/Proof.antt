@@ -11,14 +11,11 @@ use Rattle.simulator.proofs.SheetRunLaws.{answered}
 use Rattle.simulator.proofs.sheet_run.run.Statement.{statement}
 use Rattle.simulator.proofs.sheet_run.run.Tie as tie
 
--- ---- the places that the needs go back to, each from the one after it: the entry, the sheet checked, its plan made, its delays, the
--- state checked, all checked
+-- ---- the places that the needs go back to, each from the one after it: the entry, the plan made, the delays, the state
+-- checked, all checked
 
 abbrev entry : tie.After-check → tie.Start
 entry c = c .before .before .before .before
-
-abbrev checked : tie.After-planned → tie.Else1
-checked c = c .before
 
 abbrev plan : tie.After-timer-delays → tie.After-planned
 plan c = c .before .before
@@ -34,7 +31,7 @@ prepared c = plan (delays (c .before))
 
 -- there the state is sound
 admitted : (c : tie.Else2)
-    → let a = entry (checked (prepared (c .before)) .before .before) .args in stateOk (a .sheet .now) (stateOf (a .state)) ≡ true
+    → let a = entry (prepared (c .before) .before .before .before) .args in stateOk (a .sheet .now) (stateOf (a .state)) ≡ true
 admitted c = passed (c .before .state-ok .ensures) (c .if2 .left)
 
 -- ---- the needs

@@ -10,18 +10,15 @@ use Rattle.sets.specs.Sets.{has, meet}
 use Rattle.rows.specs.Over.{over}
 use Rattle.meaning.specs.Sheet.{kOf}
 use Rattle.meaning.specs.Reaction.{running}
-use Rattle.meaning.specs.Run.{State, ran}
-use Rattle.meaning.specs.SheetRun.{sheetTicks}
 use Rattle.meaning.proofs.SheetLaws.{Sound, sound, k-le}
 use Rattle.sheet.proofs.Past.{head-read}
 use Rattle.reaction.specs.Plan.{timersWord}
 use Rattle.reaction.proofs.PlanLaws.{running-meet}
 use Rattle.run.specs.Counts.{totalOf}
 use Rattle.run.specs.States.{stateOf}
-use Rattle.run.proofs.LoopLaws.{input-below}
+use Rattle.run.proofs.LoopLaws.{input-below, later, ends-done, ends-foreign}
 use Rattle.simulator.proofs.DelayLaws.{delay-word}
-use Rattle.simulator.proofs.SheetRunLaws.{stateAt, ReachedModes, start-state, start-modes, later, ends-done, ends-foreign}
-use Rattle.simulator.proofs.SheetRunLaws.{tick-begins, ends-refused, next-turn}
+use Rattle.simulator.proofs.SheetRunLaws.{stateAt, ReachedModes, start-state, start-modes, tick-begins, tick-refused, next-turn}
 use Rattle.simulator.proofs.sheet_run.ticks.Statement.{statement}
 use Rattle.simulator.proofs.sheet_run.ticks.Tie as tie
 
@@ -34,26 +31,16 @@ abbrev μ-loop : tie.MeasureT-loop
 
 -- ---- the places that the needs go back to, each from the one after it
 
--- before the loop: the entry, the events counted, the deadlines
+-- before the loop: the entry, the deadlines
 abbrev entry : tie.After-timers Inv-loop μ-loop → tie.Start Inv-loop μ-loop
 entry c = c .before .before .before .before
-
-abbrev counted : tie.After-deadlines Inv-loop μ-loop → tie.After-event-count Inv-loop μ-loop
-counted c = c .before .before
 
 abbrev dates : tie.At-loop Inv-loop μ-loop → tie.After-deadlines Inv-loop μ-loop
 dates c = c .before .before
 
--- in a turn: the input set read, and below 2^k; the tick, and not refused; the timers that start; the deadlines; the five words
--- put; the rounds added
-abbrev turn : tie.After-shared-slice-known3 Inv-loop μ-loop → tie.In-loop Inv-loop μ-loop
-turn c = c .before
-
+-- in a turn: the input set below 2^k; the tick not refused; the timers that start; the five words put
 abbrev known : tie.After-due Inv-loop μ-loop → tie.Else1 Inv-loop μ-loop
 known c = c .before .before
-
-abbrev ticked : tie.After-number Inv-loop μ-loop → tie.After-tick Inv-loop μ-loop
-ticked c = c .before
 
 abbrev allowed : tie.After-from-set2 Inv-loop μ-loop → tie.Else2 Inv-loop μ-loop
 allowed c = c .before .before
@@ -61,33 +48,27 @@ allowed c = c .before .before
 abbrev started : tie.After-ends4 Inv-loop μ-loop → tie.After-from-set2 Inv-loop μ-loop
 started c = c .before .before
 
-abbrev restarted : tie.After-put-five-arg Inv-loop μ-loop → tie.After-restart Inv-loop μ-loop
-restarted c = c .before
-
 abbrev put : tie.After-slice-known2 Inv-loop μ-loop → tie.After-put-five Inv-loop μ-loop
 put c = c .before .before
 
-abbrev added : tie.After-with-rounds Inv-loop μ-loop → tie.After-slice-known2 Inv-loop μ-loop
-added c = c .before
-
 -- the entry from the deadlines and from the loop's head; the turn and the head from the tick; the tick and the deadlines from later on
 abbrev begun : tie.After-deadlines Inv-loop μ-loop → tie.Start Inv-loop μ-loop
-begun c = entry (counted c .before)
+begun c = entry (c .before .before .before)
 
 abbrev start : tie.At-loop Inv-loop μ-loop → tie.Start Inv-loop μ-loop
 start c = begun (dates c)
 
 abbrev inside : tie.After-tick Inv-loop μ-loop → tie.In-loop Inv-loop μ-loop
-inside c = turn (known (c .before) .before)
+inside c = known (c .before) .before .before
 
 abbrev head : tie.After-tick Inv-loop μ-loop → tie.At-loop Inv-loop μ-loop
 head c = inside c .before
 
 abbrev reacted : tie.After-ends4 Inv-loop μ-loop → tie.After-tick Inv-loop μ-loop
-reacted c = ticked (allowed (started c) .before)
+reacted c = allowed (started c) .before .before
 
 abbrev moved : tie.After-five-words Inv-loop μ-loop → tie.After-restart Inv-loop μ-loop
-moved c = restarted (c .before)
+moved c = c .before .before
 
 abbrev inputs-left : tie.After-slice-known2 Inv-loop μ-loop → tie.In-loop Inv-loop μ-loop
 inputs-left c = inside (reacted (moved (put c .before) .before))
@@ -97,8 +78,8 @@ inputs-left c = inside (reacted (moved (put c .before) .before))
 sheet-sound : (c : tie.At-loop Inv-loop μ-loop) → Sound (start c .args .sheet .now)
 sheet-sound c = sound _ (start c .pre .0 .passes)
 
-count-is : (c : tie.At-loop Inv-loop μ-loop) → counted (dates c) .event-count .result ≡ kOf (start c .args .sheet .now)
-count-is c = counted (dates c) .event-count .ensures
+count-is : (c : tie.At-loop Inv-loop μ-loop) → dates c .before .before .event-count .result ≡ kOf (start c .args .sheet .now)
+count-is c = dates c .before .before .event-count .ensures
 
 -- so few ticks that every count fits
 short : (c : tie.In-loop Inv-loop μ-loop) → c .before .loop .i < 2305843009213693952
@@ -111,28 +92,19 @@ runs c = ap₂ meet (c .loop .inv .0 .sources) (start c .pre .0 .timingAt) ∙ r
 
 not-past : (c : tie.At-loop Inv-loop μ-loop) (t : ℕ)
     → has (meet (c .loop .live) (getD (start c .args .plan .now) timersWord 0)) t ≡ true → c .loop .i ≤ getD (c .loop .ends) t 0
-not-past c = later (c .loop .inv .0) (runs c)
+not-past c = later (c .loop .inv .0 .timed) (runs c)
 
--- the run from the deadlines at the start is the run from the readings
-long : (c : tie.After-deadlines Inv-loop μ-loop) → length (c .deadlines .result) ≡ 64
-long c = search needs
-
+-- the state by the deadlines at the start is the start
 from-start : (c : tie.At-loop Inv-loop μ-loop)
-    → let a = start c .args in
-    ran (a .out .now) (sheetTicks (a .sheet .now) (a .inputs .now) (stateAt (a .sheet .now) (a .start .at) (dates c .deadlines .result) 0))
-    ≡ ran (a .out .now) (sheetTicks (a .sheet .now) (a .inputs .now) (stateOf (a .start)))
-from-start c =
-    let s = start c in
-    let a = s .args in
-    ap (λ (q : State). ran (a .out .now) (sheetTicks (a .sheet .now) (a .inputs .now) q))
-    (start-state (a .sheet .now) (sheet-sound c) (stateOf (a .start)) (s .pre .2) (dates c .deadlines .ensures) (long (dates c)))
+    → let a = start c .args in stateAt (a .sheet .now) (a .start .at) (dates c .deadlines .result) 0 ≡ stateOf (a .start)
+from-start c = start-state _ (sheet-sound c) (stateOf (start c .args .start)) (start c .pre .2) (dates c .deadlines .ensures) (search needs)
 
 -- the input set has no bit at k or above
 input-ok : (c : tie.Else1 Inv-loop μ-loop)
-    → let at = turn (c .before) .before in
+    → let at = c .before .before .before in
     getD (start at .args .inputs .now) (at .loop .i) 0 / 2 ^ kOf (start at .args .sheet .now) ≡ 0
 input-ok c =
-    let at = turn (c .before) .before in
+    let at = c .before .before .before in
     ap (λ (k : ℕ). getD (start at .args .inputs .now) (at .loop .i) 0 / 2 ^ k) (sym (count-is at)) ∙ c .if1 .left
 
 -- ---- the needs
@@ -154,7 +126,7 @@ loop-holds c =
     let s = begun (c .before) in
     let a = s .args in (
       start-modes (a .sheet .now) (sound _ (s .pre .0 .passes)) (stateOf (a .start)) (s .pre .2)
-          (c .before .deadlines .ensures) (long (c .before)) (c .from-set .ensures) (s .pre .3),
+          (c .before .deadlines .ensures) (search needs) (c .from-set .ensures) (s .pre .3),
       omega arith,
     )
 
@@ -165,10 +137,10 @@ shared-slice-read-input : tie.Need-shared-slice-read-input Inv-loop μ-loop
 shared-slice-read-input c = search needs
 
 shr-if1 : tie.Need-shr-if1 Inv-loop μ-loop
-shr-if1 c = let at = turn c .before in omega (arith, count-is at, k-le _ (sheet-sound at))
+shr-if1 c = let at = c .before .before in omega (arith, count-is at, k-le _ (sheet-sound at))
 
 ended-requires : tie.Need-ended-requires Inv-loop μ-loop
-ended-requires c κs = not-past (turn (c .before .before) .before)
+ended-requires c κs = not-past (c .before .before .before .before)
 
 same-length : tie.Need-same-length Inv-loop μ-loop
 same-length c = search needs
@@ -176,13 +148,12 @@ same-length c = search needs
 returns : tie.Need-returns Inv-loop μ-loop
 returns c =
     let foreign = c .before .before in
-    let in-turn = turn (foreign .before) in
+    let in-turn = foreign .before .before in
     let at = in-turn .before in
     let input = getD (start at .args .inputs .now) (at .loop .i) 0 in (
       c .ended .ensures .0 (at .loop .out)
-          ∙ ends-foreign (at .loop .inv .0) (runs at) (in-turn .loop-test .taken)
-          (λ e. foreign .if1 .taken (ap (λ (k : ℕ). input / 2 ^ k) (count-is at) ∙ e))
-          ∙ from-start at,
+          ∙ rw (from-start at) at (ends-foreign (at .loop .inv .0 .timed) (runs at) (in-turn .loop-test .taken)
+          (λ e. foreign .if1 .taken (ap (λ (k : ℕ). input / 2 ^ k) (count-is at) ∙ e))),
       omega (arith, c .ended .ensures .1, at .loop .inv .1),
     )
 
@@ -194,41 +165,40 @@ due-requires c κs = search needs
 
 tick-requires : tie.Need-tick-requires Inv-loop μ-loop
 tick-requires c κs =
-    let at = turn (known c .before) .before in
+    let at = known c .before .before .before in
     (start at .pre .0, tick-begins (at .loop .inv .0) (runs at) (c .due .ensures .0), input-below _ _ (input-ok (known c)))
 
 number-requires : tie.Need-number-requires Inv-loop μ-loop
 number-requires c κs = search needs
 
 ended-requires-2 : tie.Need-ended-requires-2 Inv-loop μ-loop
-ended-requires-2 c κs = not-past (head (ticked (c .before .before)))
+ended-requires-2 c κs = not-past (head (c .before .before .before))
 
 same-length-2 : tie.Need-same-length-2 Inv-loop μ-loop
-same-length-2 c = omega (arith, head (ticked (c .before .before .before)) .loop .inv .0 .reached .same)
+same-length-2 c = omega (arith, head (c .before .before .before .before) .loop .inv .0 .timed .reached .same)
 
 returns-2 : tie.Need-returns-2 Inv-loop μ-loop
 returns-2 c =
     let refused = c .before .before in
-    let tick = ticked (refused .before) in
+    let tick = refused .before .before in
     let at = head tick in (
       c .ended2 .ensures .0 (at .loop .out)
-          ∙ ends-refused (at .loop .inv .0) (runs at) (tick .before .due .ensures .0) (inside tick .loop-test .taken) (input-ok (known (tick .before)))
-          (tick .tick .ensures .0) (λ e. refused .if2 .taken (refused .before .number .ensures ∙ e))
-          ∙ from-start at,
+          ∙ rw (from-start at) at (tick-refused (at .loop .inv .0) (runs at) (tick .before .due .ensures .0) (inside tick .loop-test .taken)
+          (input-ok (known (tick .before))) (tick .tick .ensures .0) (λ e. refused .if2 .taken (refused .before .number .ensures ∙ e))),
       omega (arith, c .ended2 .ensures .1, at .loop .inv .1),
     )
 
 from-set-requires-2 : tie.Need-from-set-requires-2 Inv-loop μ-loop
-from-set-requires-2 c κs = start (head (ticked (c .before .before))) .pre .0 .fromAt
+from-set-requires-2 c κs = start (head (c .before .before .before)) .pre .0 .fromAt
 
 restart-requires : tie.Need-restart-requires Inv-loop μ-loop
 restart-requires c κs =
     let tick = reacted c in
     let at = head tick in
-    (at .loop .inv .0 .long, omega (arith, short (inside tick)), λ t l. delay-word _ (start at .pre .1) t l (sheet-sound at))
+    (at .loop .inv .0 .timed .long, omega (arith, short (inside tick)), λ t l. delay-word _ (start at .pre .1) t l (sheet-sound at))
 
 mul-put-five : tie.Need-mul-put-five Inv-loop μ-loop
-mul-put-five c = omega (arith, short (inside (reacted (restarted c .before))))
+mul-put-five c = omega (arith, short (inside (reacted (c .before .before))))
 
 five-words-requires : tie.Need-five-words-requires Inv-loop μ-loop
 five-words-requires c κs = search needs
@@ -236,7 +206,7 @@ five-words-requires c κs = search needs
 put-five-requires : tie.Need-put-five-requires Inv-loop μ-loop
 put-five-requires c κs =
     let on = inside (reacted (moved c .before)) in
-    omega (arith, on .loop-test .taken, on .before .loop .inv .0 .reached .room)
+    omega (arith, on .loop-test .taken, on .before .loop .inv .0 .timed .reached .room)
 
 with-rounds-requires : tie.Need-with-rounds-requires Inv-loop μ-loop
 with-rounds-requires c κs =
@@ -244,18 +214,18 @@ with-rounds-requires c κs =
     (omega (arith, short on, on .before .loop .inv .0 .few), on .before .loop .inv .1)
 
 add-i : tie.Need-add-i Inv-loop μ-loop
-add-i c = omega (arith, short (inputs-left (added c)))
+add-i c = omega (arith, short (inputs-left (c .before)))
 
 loop-less : tie.Need-loop-less Inv-loop μ-loop
-loop-less c = omega (arith, inputs-left (added c) .loop-test .taken)
+loop-less c = omega (arith, inputs-left (c .before) .loop-test .taken)
 
 loop-again : tie.Need-loop-again Inv-loop μ-loop
 loop-again c =
-    let out = put (added c) in
+    let out = put (c .before) in
     let dates = moved (out .before) in
     let starts = started (dates .before) in
     let ok = allowed starts in
-    let tick = ticked (ok .before) in
+    let tick = ok .before .before in
     let at = head tick in
     let p = start at .pre in (
       next-turn (at .loop .inv .0) (runs at) (tick .before .due .ensures .0) (inside tick .loop-test .taken) (input-ok (known (tick .before)))
@@ -277,7 +247,7 @@ returns-3 : tie.Need-returns-3 Inv-loop μ-loop
 returns-3 c =
     let over = c .before .before in
     let at = over .before in (
-      c .ended3 .ensures .0 (at .loop .out) ∙ ends-done (at .loop .inv .0) (runs at) (over .loop-test .left) ∙ from-start at,
+      c .ended3 .ensures .0 (at .loop .out) ∙ rw (from-start at) at (ends-done (at .loop .inv .0 .timed) (runs at) (over .loop-test .left)),
       omega (arith, c .ended3 .ensures .1, at .loop .inv .1),
     )
 
