@@ -30,9 +30,7 @@ shares-ends-requires c κs =
 
 returns : tie.Need-returns Inv-loop μ-loop
 unfolding distinctOk
-returns c =
-    let l = c .before .before .before .loop in
-    sym (ap not (some-found _ _ (l .t) (omega arith) (sym (c .before .shares-ends .ensures) ∙ c .if1 .taken)))
+returns c = sym (ap not (some-found _ _ _ (omega arith) (sym (c .before .shares-ends .ensures) ∙ c .if1 .taken)))
 
 add-t : tie.Need-add-t Inv-loop μ-loop
 add-t c = search needs
@@ -41,15 +39,11 @@ loop-less : tie.Need-loop-less Inv-loop μ-loop
 loop-less c = search needs
 
 loop-again : tie.Need-loop-again Inv-loop μ-loop
-loop-again c =
-    let l = c .before .before .before .loop in
-    (omega arith, some-next _ (l .t) (l .inv .1) (sym (c .before .shares-ends .ensures) ∙ c .if1 .left))
+loop-again c = (omega arith, some-next _ _ (c .before .before .before .loop .inv .1) (sym (c .before .shares-ends .ensures) ∙ c .if1 .left))
 
 returns-2 : tie.Need-returns-2 Inv-loop μ-loop
 unfolding distinctOk
-returns-2 c =
-    let l = c .before .loop in
-    sym (ap not (some-done _ _ (l .t) (omega arith) (omega arith) (l .inv .1)))
+returns-2 c = sym (ap not (some-done _ _ _ (omega arith) (omega arith) (c .before .loop .inv .1)))
 
 pub distinct-ok-spec : {M : Type 1} → statement M
 distinct-ok-spec =

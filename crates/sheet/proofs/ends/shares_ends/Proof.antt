@@ -71,9 +71,7 @@ loop-again c =
 
 returns-2 : tie.Need-returns-2 Inv-loop μ-loop
 unfolding sharesEnds
-returns-2 c =
-    let l = c .before .loop in
-    sym (some-done _ _ (l .u) (omega arith) (omega arith) (l .inv .1))
+returns-2 c = sym (some-done _ _ _ (omega arith) (omega arith) (c .before .loop .inv .1))
 
 pub shares-ends-spec : {M : Type 1} → statement M
 shares-ends-spec =

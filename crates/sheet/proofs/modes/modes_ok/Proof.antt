@@ -28,9 +28,7 @@ mode-ok-requires c κs = record { head = c .before .before .before .before .pre;
 
 returns : tie.Need-returns Inv-loop μ-loop
 unfolding modesOk
-returns c =
-    let l = c .before .before .before .loop in
-    sym (every-fails _ _ (l .m) (omega arith) (failed (c .before .mode-ok .ensures) (c .if1 .taken)))
+returns c = sym (every-fails _ _ _ (omega arith) (failed (c .before .mode-ok .ensures) (c .if1 .taken)))
 
 add-m : tie.Need-add-m Inv-loop μ-loop
 add-m c = search needs
@@ -39,15 +37,11 @@ loop-less : tie.Need-loop-less Inv-loop μ-loop
 loop-less c = search needs
 
 loop-again : tie.Need-loop-again Inv-loop μ-loop
-loop-again c =
-    let l = c .before .before .before .loop in
-    (omega arith, every-next _ (l .m) (l .inv .1) (passed (c .before .mode-ok .ensures) (c .if1 .left)))
+loop-again c = (omega arith, every-next _ _ (c .before .before .before .loop .inv .1) (passed (c .before .mode-ok .ensures) (c .if1 .left)))
 
 returns-2 : tie.Need-returns-2 Inv-loop μ-loop
 unfolding modesOk
-returns-2 c =
-    let l = c .before .loop in
-    sym (every-done _ _ (l .m) (omega arith) (omega arith) (l .inv .1))
+returns-2 c = sym (every-done _ _ _ (omega arith) (omega arith) (c .before .loop .inv .1))
 
 pub modes-ok-spec : {M : Type 1} → statement M
 modes-ok-spec =

@@ -41,9 +41,7 @@ loop-less : tie.Need-loop-less Inv-loop μ-loop
 loop-less c = search needs
 
 loop-again : tie.Need-loop-again Inv-loop μ-loop
-loop-again c =
-    let l = c .before .before .before .loop in
-    (omega arith, every-next _ (l .t) (l .inv .1) (passed (c .before .pair-ok .ensures) (c .if1 .left)))
+loop-again c = (omega arith, every-next _ _ (c .before .before .before .loop .inv .1) (passed (c .before .pair-ok .ensures) (c .if1 .left)))
 
 end-before-requires : tie.Need-end-before-requires Inv-loop μ-loop
 end-before-requires c κs = search needs
