@@ -1,6 +1,5 @@
 -- `sheet::ends::shares_ends` meets its contract: no transition below u has both ends of t.
 -- The measure is what is left of t. Assumes nothing.
-use native.Mathlib.Omega.{arith}
 use borrow.Author.Needs.{needs}
 use mathlib.Core.Logic.{⊎-elim}
 use mathlib.Core.Path.{_≡_, sym, _∙_}
@@ -34,12 +33,12 @@ loop-holds c = (zero-le, some-start _)
 source-requires-2 : tie.Need-source-requires-2 Inv-loop μ-loop
 source-requires-2 c κs =
     let q = c .before .before .before .before .before .pre in
-    record { head = q .head; pairs = q .pairs; transition = omega arith }
+    record { head = q .head; pairs = q .pairs; transition = search needs }
 
 target-requires-2 : tie.Need-target-requires-2 Inv-loop μ-loop
 target-requires-2 c κs =
     let q = c .before .before .before .before .before .before .before .pre in
-    record { head = q .head; pairs = q .pairs; transition = omega arith }
+    record { head = q .head; pairs = q .pairs; transition = search needs }
 
 returns : tie.Need-returns Inv-loop μ-loop
 unfolding sharesEnds
@@ -61,7 +60,7 @@ loop-again : tie.Need-loop-again Inv-loop μ-loop
 loop-again c =
     let l = c .before .before .before .loop in
     let g = c .before .before .before .before .before .before .before .args in (
-      omega arith,
+      search needs,
       some-next _ (l .u) (l .inv .1)
           (⊎-elim
           (λ w. target-other (g .sheet .now) (g .t) (l .u) (λ e. eqb-false _ _ (w .2 .left) (w .1 .ensures ∙ e ∙ sym (c .before .before .before .before .target .ensures))))
@@ -71,7 +70,7 @@ loop-again c =
 
 returns-2 : tie.Need-returns-2 Inv-loop μ-loop
 unfolding sharesEnds
-returns-2 c = sym (some-done _ _ _ (omega arith) (omega arith) (c .before .loop .inv .1))
+returns-2 c = sym (some-done _ _ _ (search needs) (search needs) (c .before .loop .inv .1))
 
 pub shares-ends-spec : {M : Type 1} → statement M
 shares-ends-spec =

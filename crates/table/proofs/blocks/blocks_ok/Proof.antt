@@ -1,6 +1,5 @@
 -- `table::blocks::blocks_ok` meets its contract: every block below b is sound.
 -- The measure is what is left of the count. Assumes nothing.
-use native.Mathlib.Omega.{arith}
 use borrow.Author.Needs.{needs}
 use mathlib.Core.Path.{_≡_, sym}
 use mathlib.Core.Bool.{true}
@@ -33,7 +32,7 @@ returns : tie.Need-returns Inv-loop μ-loop
 returns c =
     let l = c .before .before .before .loop in
     let w = c .before .before .before .before .before .before .before .args .table .now in
-    sym (every-fails (blockOk w) (bIn w) (l .b) (omega arith) (failed (c .before .block-ok .ensures) (c .if1 .taken)))
+    sym (every-fails (blockOk w) (bIn w) (l .b) (search needs) (failed (c .before .block-ok .ensures) (c .if1 .taken)))
 
 add-b : tie.Need-add-b Inv-loop μ-loop
 add-b c = search needs
@@ -42,15 +41,13 @@ loop-less : tie.Need-loop-less Inv-loop μ-loop
 loop-less c = search needs
 
 loop-again : tie.Need-loop-again Inv-loop μ-loop
-loop-again c =
-    let l = c .before .before .before .loop in
-    (omega arith, every-next _ (l .b) (l .inv .1) (passed (c .before .block-ok .ensures) (c .if1 .left)))
+loop-again c = (search needs, every-next _ _ (c .before .before .before .loop .inv .1) (passed (c .before .block-ok .ensures) (c .if1 .left)))
 
 returns-2 : tie.Need-returns-2 Inv-loop μ-loop
 returns-2 c =
     let l = c .before .loop in
     let w = c .before .before .before .before .before .args .table .now in
-    sym (every-done (blockOk w) (bIn w) (l .b) (omega arith) (omega arith) (l .inv .1))
+    sym (every-done (blockOk w) (bIn w) (l .b) (search needs) (search needs) (l .inv .1))
 
 pub blocks-ok-spec : {M : Type 1} → statement M
 blocks-ok-spec =

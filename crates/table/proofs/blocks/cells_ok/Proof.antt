@@ -1,6 +1,5 @@
 -- `table::blocks::cells_ok` meets its contract: the flag says whether every cell below c has a next block from 1 to B - 1.
 -- The measure is what is left of the count. Assumes nothing.
-use native.Mathlib.Omega.{arith}
 use borrow.Author.Needs.{needs}
 use mathlib.Core.Path.{_≡_, refl, ap, _∙_}
 use native.Mathlib.Nat.{le-antisymm}
@@ -41,7 +40,7 @@ unfolding nextOk
 loop-again c =
     let l = c .before .before .loop in
     let a = c .before .before .before .args in
-    (omega arith, every-and (nextOk (a .cells .now) (a .blocks)) (l .c) (l .ok) _ _ (l .inv .1) refl)
+    (search needs, every-and (nextOk (a .cells .now) (a .blocks)) (l .c) (l .ok) _ _ (l .inv .1) refl)
 
 returns : tie.Need-returns Inv-loop μ-loop
 returns c =
