@@ -23,9 +23,7 @@ loop-holds : tie.Need-loop-holds Inv-loop μ-loop
 loop-holds c = (zero-le, some-start _)
 
 shares-ends-requires : tie.Need-shares-ends-requires Inv-loop μ-loop
-shares-ends-requires c κs =
-    let q = c .before .before .before .before .pre in
-    record { head = q .0; pairs = q .1; transition = search needs }
+shares-ends-requires c κs = search needs
 
 returns : tie.Need-returns Inv-loop μ-loop
 unfolding distinctOk

@@ -23,9 +23,7 @@ loop-holds : tie.Need-loop-holds Inv-loop μ-loop
 loop-holds c = (zero-le, every-start _)
 
 end-ok-requires : tie.Need-end-ok-requires Inv-loop μ-loop
-end-ok-requires c κs =
-    let q = c .before .before .before .before .pre in
-    (q .0, record { head = q .0 .head; pairs = q .1; transition = search needs })
+end-ok-requires c κs = search needs
 
 returns : tie.Need-returns Inv-loop μ-loop
 unfolding endsOk

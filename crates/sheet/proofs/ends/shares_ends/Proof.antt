@@ -31,14 +31,10 @@ loop-holds : tie.Need-loop-holds Inv-loop μ-loop
 loop-holds c = (zero-le, some-start _)
 
 source-requires-2 : tie.Need-source-requires-2 Inv-loop μ-loop
-source-requires-2 c κs =
-    let q = c .before .before .before .before .before .pre in
-    record { head = q .head; pairs = q .pairs; transition = search needs }
+source-requires-2 c κs = search needs
 
 target-requires-2 : tie.Need-target-requires-2 Inv-loop μ-loop
-target-requires-2 c κs =
-    let q = c .before .before .before .before .before .before .before .pre in
-    record { head = q .head; pairs = q .pairs; transition = search needs }
+target-requires-2 c κs = search needs
 
 returns : tie.Need-returns Inv-loop μ-loop
 unfolding sharesEnds

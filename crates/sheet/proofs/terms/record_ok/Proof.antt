@@ -23,9 +23,7 @@ loop-holds : tie.Need-loop-holds Inv-loop μ-loop
 loop-holds c = (zero-le, every-start _)
 
 term-ok-requires : tie.Need-term-ok-requires Inv-loop μ-loop
-term-ok-requires c κs =
-    let q = c .before .before .before .before .pre in
-    record { head = q .head; pairs = q .pairs; transition = q .transition; term = search needs }
+term-ok-requires c κs = search needs
 
 returns : tie.Need-returns Inv-loop μ-loop
 returns c = sym (every-fails _ _ _ (search needs) (failed (c .before .term-ok .ensures) (c .if1 .taken)))

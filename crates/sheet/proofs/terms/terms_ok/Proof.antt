@@ -24,9 +24,7 @@ loop-holds : tie.Need-loop-holds Inv-loop μ-loop
 loop-holds c = (zero-le, every-start _)
 
 record-ok-requires : tie.Need-record-ok-requires Inv-loop μ-loop
-record-ok-requires c κs =
-    let q = c .before .before .before .before .pre in
-    record { head = q .0; pairs = q .1; transition = search needs }
+record-ok-requires c κs = search needs
 
 returns : tie.Need-returns Inv-loop μ-loop
 unfolding termsOk
