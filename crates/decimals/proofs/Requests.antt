@@ -3,7 +3,7 @@ use mathlib.Core.Path.{_≡_, sym}
 use mathlib.Core.Bool.{true, false, and-true}
 use mathlib.Core.List.{List}
 use Prim.Native.Nat.{ℕ, _+_, _≤_}
-use lib.Dec.{eqb, leb, eqb→eq, leb→le}
+use lib.Dec.{eqb, eqb→eq, leb→le}
 use lib.ListN.{length}
 use borrow.Author.Tests.{le-leb}
 use Rattle.meaning.specs.Lists.{allOf}

@@ -2,15 +2,14 @@
 -- The measure is what is left of t. Assumes nothing.
 use borrow.Author.Needs.{needs}
 use mathlib.Core.Logic.{⊎-elim}
-use mathlib.Core.Path.{_≡_, sym, _∙_}
-use mathlib.Core.Bool.{false, _&&_}
+use mathlib.Core.Path.{_≡_, sym, ap₂, _∙_}
+use mathlib.Core.Bool.{false, _&&_, and-false}
 use Prim.Native.Nat.{_≤_, _-_, zero-le}
 use lib.Dec.{eqb}
-use borrow.Author.Tests.{eqb-true, eqb-false}
+use borrow.Author.Tests.{eqb-true, eqb-false, eq-eqb, ne-eqb}
 use Rattle.sets.specs.Sets.{some}
 use Rattle.meaning.specs.Sheet.{source, target}
 use Rattle.meaning.specs.Check.{sharesEnds}
-use Rattle.sheet.proofs.SheetTestLaws.{ends-same, source-other, target-other}
 use Rattle.sets.proofs.Loops.{some-start, some-next, some-found, some-done}
 use Rattle.sheet.proofs.ends.shares_ends.Statement.{statement}
 use Rattle.sheet.proofs.ends.shares_ends.Tie as tie
@@ -39,12 +38,12 @@ target-requires-2 c κs = search needs
 returns : tie.Need-returns Inv-loop μ-loop
 unfolding sharesEnds
 returns c =
-    let l = c .before .before .before .before .before .loop in
+    let a = c .before .before .before in
     sym
-    (some-found _ _ (l .u) (c .before .before .before .before .loop-test .taken)
-    (ends-same _ _ _
-    (sym (c .before .before .before .source2 .ensures) ∙ c .before .before .if1 .taken ∙ c .before .before .before .before .before .before .before .source .ensures)
-    (sym (c .before .target2 .ensures) ∙ eqb-true _ _ (c .if2 .taken) ∙ c .before .before .before .before .before .before .target .ensures)))
+    (some-found _ _ _ (a .before .loop-test .taken)
+    (ap₂ _&&_
+    (eq-eqb _ _ (sym (a .source2 .ensures) ∙ c .before .before .if1 .taken ∙ a .before .before .before .before .source .ensures))
+    (eq-eqb _ _ (sym (c .before .target2 .ensures) ∙ eqb-true _ _ (c .if2 .taken) ∙ a .before .before .before .target .ensures))))
 
 add-u : tie.Need-add-u Inv-loop μ-loop
 add-u c = search needs
@@ -54,13 +53,12 @@ loop-less c = search needs
 
 loop-again : tie.Need-loop-again Inv-loop μ-loop
 loop-again c =
-    let l = c .before .before .before .loop in
-    let g = c .before .before .before .before .before .before .before .args in (
+    let l = c .before .before .before .loop in (
       search needs,
       some-next _ (l .u) (l .inv .1)
           (⊎-elim
-          (λ w. target-other (g .sheet .now) (g .t) (l .u) (λ e. eqb-false _ _ (w .2 .left) (w .1 .ensures ∙ e ∙ sym (c .before .before .before .before .target .ensures))))
-          (λ w. source-other (g .sheet .now) (g .t) (l .u) (λ e. w .left (c .before .source2 .ensures ∙ e ∙ sym (c .before .before .before .before .before .source .ensures))))
+          (λ w. rw (ne-eqb _ _ (λ e. eqb-false _ _ (w .2 .left) (w .1 .ensures ∙ e ∙ sym (c .before .before .before .before .target .ensures))), and-false))
+          (λ w. rw (ne-eqb _ _ (λ e. w .left (c .before .source2 .ensures ∙ e ∙ sym (c .before .before .before .before .before .source .ensures)))))
           (c .if1 .came)),
     )
 
