@@ -70,9 +70,8 @@ add-result-2 c = omega (arith, c .shared-slice-known7 .given 2, c .shared-slice-
 returns-3 : tie.Need-returns-3
 unfolding kIn tIn bIn wordIn
 returns-3 c =
-    let s = c .before .before .before .before .before .before .before .before .before .before .before .before .before in
     sym
-    (head-is (s .args .table .now) (omega arith) (eqb-true _ _ (not-false _ (c .before .before .before .before .before .before .before .before .before .before .if2 .left)))
+    (head-is _ (omega arith) (eqb-true _ _ (not-false _ (c .before .before .before .before .before .before .before .before .before .before .if2 .left)))
     (omega (arith, ltb-false)) (omega (arith, ltb-false)) (omega (arith, ltb-false)) (omega (arith, ltb-false)))
 
 pub head-ok-spec : {M : Type 1} → statement M

@@ -76,9 +76,7 @@ returns-7 c =
     rw (mode-term (g .sheet .now) (g .t) (g .j) (omega arith) (omega arith), c .before .wide2 .ensures, c .before .before .before .before .before .before .term-value .ensures, c .mode-count2 .ensures)
 
 returns-8 : tie.Need-returns-8
-returns-8 c =
-    let g = c .before .before .before .before .before .before .args in
-    sym (other-term (g .sheet .now) (g .t) (g .j) (omega arith))
+returns-8 c = sym (other-term _ _ _ (omega arith))
 
 pub term-ok-spec : {M : Type 1} → statement M
 term-ok-spec =
