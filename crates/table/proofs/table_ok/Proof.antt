@@ -29,10 +29,8 @@ returns c =
 
 blocks-ok-requires : tie.Need-blocks-ok-requires
 blocks-ok-requires c κs =
-    let p = c .before in
-    let t = p .before .before in
-    let h = t .before .before in
-    (of-true (passed (h .head-ok .ensures) (t .before .if1 .left)), of-true (passed (p .pairs-ok .ensures) (c .if3 .left)))
+    let t = c .before .before .before in
+    (of-true (passed (t .before .before .head-ok .ensures) (t .before .if1 .left)), of-true (passed (c .before .pairs-ok .ensures) (c .if3 .left)))
 
 returns-2 : tie.Need-returns-2
 returns-2 c =

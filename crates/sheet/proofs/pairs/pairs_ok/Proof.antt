@@ -29,9 +29,8 @@ pair-ok-requires c κs = record { head = c .before .before .before .before .pre;
 returns : tie.Need-returns Inv-loop μ-loop
 unfolding pairsOk
 returns c =
-    let l = c .before .before .before .loop in
     let s = c .before .before .before .before .before .before .args .sheet .now in
-    rw (every-fails (pairOk s) (tOf s) (l .t) (search needs) (failed (c .before .pair-ok .ensures) (c .if1 .taken)))
+    rw (every-fails (pairOk s) (tOf s) _ (search needs) (failed (c .before .pair-ok .ensures) (c .if1 .taken)))
 
 add-t : tie.Need-add-t Inv-loop μ-loop
 add-t c = search needs
@@ -50,7 +49,7 @@ unfolding pairsOk
 returns-2 c =
     let l = c .before .before .loop in
     let s = c .before .before .before .before .before .args .sheet .now in
-    rw (every-done (pairOk s) (tOf s) (l .t) (search needs) (search needs) (l .inv .1), c .end-before .ensures, c .before .before .before .transition-count .ensures)
+    rw (every-done (pairOk s) (tOf s) _ (search needs) (search needs) (l .inv .1), c .end-before .ensures, c .before .before .before .transition-count .ensures)
 
 pub pairs-ok-spec : {M : Type 1} → statement M
 pairs-ok-spec =

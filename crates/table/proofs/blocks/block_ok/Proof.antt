@@ -149,11 +149,10 @@ returns-4 c =
     let w = table a in
     let b = block a in
     let at = a .before .offset .result in
-    let size = a .block-length .result in
     let m = k .before .before .before .before .before .before in
     let last : lengthIn w b ≡ 3 + 6 * cellsIn w b = sym (a .block-length .ensures) ∙ c .before .before .before .if5 .left ∙ ap (λ (i : ℕ). 3 + 6 * i) (count-is k) in
     c .cells-ok .ensures
-    ∙ next-in-part w b at (k .cell-count .result) (at + size - (at + 3)) (a .before .offset .ensures) (count-is k) (omega arith)
+    ∙ next-in-part w b at (k .cell-count .result) (at + a .block-length .result - (at + 3)) (a .before .offset .ensures) (count-is k) (omega arith)
     ∙ sym
     (block-is w b
     (sym (mask-is m) ∙ not-false _ (k .before .before .before .before .before .if2 .left))
