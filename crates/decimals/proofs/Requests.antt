@@ -3,11 +3,12 @@ use mathlib.Core.Path.{_≡_, sym}
 use mathlib.Core.Bool.{true, false, and-true}
 use mathlib.Core.List.{List}
 use Prim.Native.Nat.{ℕ, _+_, _≤_}
-use lib.Dec.{eqb, leb, eqb→eq, leb→le}
+use lib.Dec.{eqb, eqb→eq, leb→le}
 use lib.ListN.{length}
 use borrow.Author.Tests.{le-leb}
 use Rattle.meaning.specs.Lists.{allOf}
-use Rattle.sets.proofs.Tests.{is-true, is-false, of-true, and-l, and-r}
+use Rattle.meaning.proofs.ListLaws.{allOf-e}
+use Rattle.sets.proofs.Tests.{is-true, is-false, of-true}
 use Rattle.decimals.specs.Request.{sheetLength, tickCount, requestOk}
 
 pub record Accepted (numbers : List ℕ) : Type 0 where
@@ -19,22 +20,15 @@ pub record Accepted (numbers : List ℕ) : Type 0 where
 
 module _ (numbers : List ℕ) where
   pub accepted : requestOk numbers ≡ true → Accepted numbers
-  unfolding requestOk allOf
+  unfolding requestOk
   accepted e =
-      let n = length numbers in
-      let s = sheetLength numbers in
-      let t = tickCount numbers in
-      let h₀ = of-true e in
-      let h₁ = and-r (leb 1 n) _ h₀ in
-      let h₂ = and-r (leb s 2403) _ h₁ in
-      let h₃ = and-r (leb (2 + s) n) _ h₂ in
-      let h₄ = and-r (leb t 1024) _ h₃ in
+      let h = allOf-e _ (of-true e) in
       record {
-        some = leb→le 1 n (and-l (leb 1 n) _ h₀);
-        sheet = leb→le s 2403 (and-l (leb s 2403) _ h₁);
-        long = leb→le (2 + s) n (and-l (leb (2 + s) n) _ h₂);
-        ticks = leb→le t 1024 (and-l (leb t 1024) _ h₃);
-        whole = eqb→eq n (2 + s + t) (and-l (eqb n (2 + s + t)) true h₄);
+        some = leb→le _ _ (h .0);
+        sheet = leb→le _ _ (h .1 .0);
+        long = leb→le _ _ (h .1 .1 .0);
+        ticks = leb→le _ _ (h .1 .1 .1 .0);
+        whole = eqb→eq _ _ (h .1 .1 .1 .1 .0);
       }
 
   pub unaccepted : (Accepted numbers → ⊥) → requestOk numbers ≡ false
@@ -44,6 +38,4 @@ module _ (numbers : List ℕ) where
   pub last-test : 1 ≤ length numbers → sheetLength numbers ≤ 2403 → 2 + sheetLength numbers ≤ length numbers → tickCount numbers ≤ 1024
       → eqb (length numbers) (2 + sheetLength numbers + tickCount numbers) ≡ requestOk numbers
   unfolding requestOk allOf
-  last-test h₁ h₂ h₃ h₄ =
-      rw (le-leb 1 (length numbers) h₁, le-leb (sheetLength numbers) 2403 h₂, le-leb (2 + sheetLength numbers) (length numbers) h₃, le-leb (tickCount numbers) 1024 h₄)
-      (sym (and-true (eqb (length numbers) (2 + sheetLength numbers + tickCount numbers))))
+  last-test h₁ h₂ h₃ h₄ = rw (le-leb _ _ h₁, le-leb _ _ h₂, le-leb _ _ h₃, le-leb _ _ h₄) (sym (and-true _))

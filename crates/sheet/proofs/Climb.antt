@@ -1,8 +1,8 @@
 -- The mode tree climbed one parent at a time: what a step leaves as it was of containment, the meeting mode and the child that
 -- holds a mode, and what each is where the climb ends. Assumes nothing.
 use mathlib.Core.Path.{_≡_, sym, _∙_}
-use mathlib.Core.Logic.{_⊎_, inl, inr}
-use mathlib.Core.Bool.{true, false, not}
+use mathlib.Core.Logic.{⊎-elim}
+use mathlib.Core.Bool.{true, not}
 use mathlib.Core.List.{List}
 use Prim.Native.Nat.{ℕ, zero, suc, _≤_, _<_}
 use native.Mathlib.Nat.{le-refl, eq-or-lt-of-le, not-suc-le-zero}
@@ -34,23 +34,17 @@ module _ {s : List ℕ} (ro : Rooted s) where
       (λ c. contains-i s ro x (up (omega arith) (contains-e s ro a (parent s x) c)) l)
 
   pub contains-end : (a x : ℕ) → x ≤ a → x < nOf s → contains s a x ≡ eqb x a
-  contains-end a x h l = go (eq-or-lt-of-le h)
-    where
-      go : (x ≡ a) ⊎ (x < a) → contains s a x ≡ eqb x a
-      go (inl e) = is-true (contains s a x) (rw (sym e) (contains-i s ro x here l)) ∙ sym (eq-eqb x a e)
-      go (inr k) = is-false (contains s a x) (λ c. omega (arith, within-le s ro (contains-e s ro a x c) l)) ∙ sym (ne-eqb x a (λ e. omega arith))
+  contains-end a x h l =
+      ⊎-elim
+      (λ (e : x ≡ a). is-true (contains s a x) (rw (sym e) (contains-i s ro x here l)) ∙ sym (eq-eqb x a e))
+      (λ (k : x < a). is-false (contains s a x) (λ c. omega (arith, within-le s ro (contains-e s ro a x c) l)) ∙ sym (ne-eqb x a (λ e. omega arith)))
+      (eq-or-lt-of-le h)
 
   -- ---- the meeting mode
 
   pub meeting-start : (a b : ℕ) → a < nOf s → meetingOf s a b ≡ meetingFrom s (parent s a) (parent s a) b
   unfolding meetingOf
   meeting-start a b l = climb-same ro (meeting-climbs s b) a (parent s a) (parent s a) (parent-le s ro a l) (le-refl (parent s a)) (parent-n s ro a l)
-
-  pub meeting-step : (p b : ℕ) → 0 < p → p < nOf s → strictlyContains s p b ≡ false → meetingFrom s p p b ≡ meetingFrom s (parent s p) (parent s p) b
-  meeting-step p b = climb-step ro (meeting-climbs s b) p
-
-  pub meeting-found : (p b : ℕ) → strictlyContains s p b ≡ true → meetingFrom s p p b ≡ p
-  meeting-found p b = climb-found ro (meeting-climbs s b) p p
 
   pub meeting-none : (p b : ℕ) → p ≤ 0 → meetingFrom s p p b ≡ p
   meeting-none zero b h = meeting-climbs s b .stop 0

@@ -1,8 +1,8 @@
 -- The sheet's tests one by one: what the head and the pairs say once they have passed, and what each test comes to where its
 -- first parts have. Assumes nothing.
 use mathlib.Core.Path.{_≡_, refl, sym, ap}
-use mathlib.Core.Logic.{_⊎_, inl, inr}
-use mathlib.Core.Bool.{Bool, true, false, not, _&&_, and-assoc, and-true, and-false}
+use mathlib.Core.Logic.{⊎-elim}
+use mathlib.Core.Bool.{Bool, false, not, _&&_, and-assoc, and-true}
 use mathlib.Core.List.{List}
 use Prim.Native.Nat.{ℕ, zero, suc, _+_, _*_, _/_, _%_, _^_, _-_, _≤_, _<_}
 use native.Mathlib.Nat.{le-refl, le-trans, le-of-eq, eq-or-lt-of-le, div-eq-of-lt, div-lt-iff-lt-mul}
@@ -11,7 +11,7 @@ use native.Mathlib.Omega.{arith}
 use lib.Dec.{T, eqb, leb, ltb, eqb→eq, ltb→lt, leb→le, lt→ltb}
 use lib.Pow.{pow-pos}
 use lib.ListN.{length}
-use borrow.Author.Tests.{le-leb, lt-ltb, eq-eqb, ne-eqb}
+use borrow.Author.Tests.{le-leb, lt-ltb, eq-eqb}
 use Rattle.sets.specs.Sets.{every}
 use Rattle.sets.proofs.Tests.{of-true, and-l, and-r, bool-ext}
 use Rattle.sets.proofs.Facts.{every-e}
@@ -108,17 +108,6 @@ pub endOk-is : (s : List ℕ) (t : ℕ) → source s t < nOf s → target s t < 
 unfolding endOk allOf
 endOk-is s t a b h k = rw (lt-ltb (source s t) (nOf s) a, lt-ltb (target s t) (nOf s) b, h, k) (and-true (eqb (kind s (meeting s t)) 1))
 
--- the ends of u and t: both the same, or one of them another
-module _ (s : List ℕ) (t u : ℕ) where
-  pub ends-same : source s u ≡ source s t → target s u ≡ target s t → (eqb (source s u) (source s t) && eqb (target s u) (target s t)) ≡ true
-  ends-same h k = rw (eq-eqb (source s u) (source s t) h, eq-eqb (target s u) (target s t) k)
-
-  pub source-other : (source s u ≡ source s t → ⊥) → (eqb (source s u) (source s t) && eqb (target s u) (target s t)) ≡ false
-  source-other h = rw (ne-eqb (source s u) (source s t) h)
-
-  pub target-other : (target s u ≡ target s t → ⊥) → (eqb (source s u) (source s t) && eqb (target s u) (target s t)) ≡ false
-  target-other h = rw (ne-eqb (target s u) (target s t) h) (and-false (eqb (source s u) (source s t)))
-
 -- ---- terms
 
 -- no bit at n or above
@@ -136,40 +125,19 @@ pub orOk-is : (s : List ℕ) (t j v : ℕ) (f g r : Bool) → f ≡ (eqb v 0 && 
     → r ≡ (eqb v 0 && ltb 0 j && ltb (suc j) (termCount s t) && not (eqb (termKind s t (suc j)) 7))
 orOk-is s t j v f g r hf hg hr = rw (← add-one j, hr, hg, hf)
 
--- a term's condition, by its kind
+-- a term's condition, where several kinds have it
 module _ (s : List ℕ) (t j : ℕ) where
-  pub delay-term : termKind s t j ≡ 0 → termOk s t j ≡ (eqb (termCount s t) 1 && leb (termValue s t j) 65535)
-  unfolding termOk
-  delay-term e = rw e
-
   pub event-term : 0 < termKind s t j → termKind s t j < 3 → termOk s t j ≡ ltb (termValue s t j) (kOf s)
   unfolding termOk
-  event-term p q = go (eq-or-lt-of-le p)
-    where
-      go : (1 ≡ termKind s t j) ⊎ (1 < termKind s t j) → termOk s t j ≡ ltb (termValue s t j) (kOf s)
-      go (inl e) = rw (sym e)
-      go (inr l) = let e : termKind s t j ≡ 2 = omega arith in rw e
-
-  pub mask-term : termKind s t j ≡ 3 → termOk s t j ≡ (ltb 0 (termValue s t j) && ltb (termValue s t j) (2 ^ nOf s))
-  unfolding termOk
-  mask-term e = rw e
+  event-term p q =
+      ⊎-elim (λ (e : 1 ≡ termKind s t j). rw (sym e)) (λ (l : 1 < termKind s t j). let e : termKind s t j ≡ 2 = omega arith in rw e)
+      (eq-or-lt-of-le p)
 
   pub mode-term : 3 < termKind s t j → termKind s t j < 6 → termOk s t j ≡ ltb (termValue s t j) (nOf s)
   unfolding termOk
-  mode-term p q = go (eq-or-lt-of-le p)
-    where
-      go : (4 ≡ termKind s t j) ⊎ (4 < termKind s t j) → termOk s t j ≡ ltb (termValue s t j) (nOf s)
-      go (inl e) = rw (sym e)
-      go (inr l) = let e : termKind s t j ≡ 5 = omega arith in rw e
-
-  pub transition-term : termKind s t j ≡ 6 → termOk s t j ≡ ltb (termValue s t j) (tOf s)
-  unfolding termOk
-  transition-term e = rw e
-
-  pub or-term : termKind s t j ≡ 7
-      → termOk s t j ≡ (eqb (termValue s t j) 0 && ltb 0 j && ltb (suc j) (termCount s t) && not (eqb (termKind s t (suc j)) 7))
-  unfolding termOk
-  or-term e = rw e
+  mode-term p q =
+      ⊎-elim (λ (e : 4 ≡ termKind s t j). rw (sym e)) (λ (l : 4 < termKind s t j). let e : termKind s t j ≡ 5 = omega arith in rw e)
+      (eq-or-lt-of-le p)
 
   pub other-term : 7 < termKind s t j → termOk s t j ≡ false
   unfolding termOk

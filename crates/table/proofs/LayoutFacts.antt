@@ -12,6 +12,7 @@ use Rattle.sets.specs.Sets.{has, size, every}
 use Rattle.sets.proofs.Tests.{and-l, and-r, or-e}
 use Rattle.sets.proofs.Facts.{every-e, everyIn-e}
 use Rattle.meaning.specs.Table.{wordIn, kIn, tIn, bIn, sourceIn, delayIn, offsetIn, lengthIn, timersIn, cellsIn, timerOk, blockOk, tableOk}
+use Rattle.meaning.proofs.ListLaws.{allOf-e}
 use Rattle.meaning.proofs.LayoutLaws.{block-sound}
 use Rattle.table.specs.Parts.{tableHeadOk, tablePairsOk}
 use Rattle.table.proofs.Places.{TableHead, head-of, block-room}
@@ -21,23 +22,18 @@ use Rattle.table.proofs.TableParts.{table-is}
 module _ (w : List ℕ) (h : T (tableOk w)) where
   -- ---- the parts
 
-  parts : T (tableHeadOk w && every (tIn w) (timerOk w) && tablePairsOk w && every (bIn w) (blockOk w))
-  parts = subst T (table-is w) h
-
   first-three : T (tableHeadOk w && every (tIn w) (timerOk w) && tablePairsOk w)
-  first-three = and-l (tableHeadOk w && every (tIn w) (timerOk w) && tablePairsOk w) (every (bIn w) (blockOk w)) parts
-
-  first-two : T (tableHeadOk w && every (tIn w) (timerOk w))
-  first-two = and-l (tableHeadOk w && every (tIn w) (timerOk w)) (tablePairsOk w) first-three
+  first-three = and-l (tableHeadOk w && every (tIn w) (timerOk w) && tablePairsOk w) (every (bIn w) (blockOk w)) (subst T (table-is w) h)
 
   pub head-sound : T (tableHeadOk w)
-  head-sound = and-l (tableHeadOk w) (every (tIn w) (timerOk w)) first-two
+  head-sound = and-l (tableHeadOk w) (every (tIn w) (timerOk w)) (and-l (tableHeadOk w && every (tIn w) (timerOk w)) (tablePairsOk w) first-three)
 
   pub pairs-sound : T (tablePairsOk w)
   pairs-sound = and-r (tableHeadOk w && every (tIn w) (timerOk w)) (tablePairsOk w) first-three
 
-  pub timer-sound : (t : ℕ) → t < tIn w → T (timerOk w t)
-  timer-sound = every-e (tIn w) (timerOk w) (and-r (tableHeadOk w) (every (tIn w) (timerOk w)) first-two)
+  timer-sound : (t : ℕ) → t < tIn w → T (timerOk w t)
+  unfolding tableOk
+  timer-sound = every-e (tIn w) (timerOk w) (allOf-e _ h .1 .1 .1 .1 .1 .1 .1 .0)
 
   -- ---- the head
 
@@ -49,12 +45,6 @@ module _ (w : List ℕ) (h : T (tableOk w)) where
 
   pub t-le : tIn w ≤ 64
   t-le = head .t-le
-
-  pub b-le : bIn w ≤ 4096
-  b-le = head .b-le
-
-  pub head-long : 4 + tIn w + 2 * bIn w ≤ length w
-  head-long = head .room
 
   -- ---- the timer words
 

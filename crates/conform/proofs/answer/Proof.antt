@@ -1,6 +1,5 @@
 -- `conform::answer` meets its contract: the current sheet and the current table lie within the words for them before and after. Assumes nothing.
 use lib.ListN.{length, length-take}
-use native.Mathlib.Omega.{arith}
 use Rattle.conform.proofs.StepLaws.{within-le}
 use borrow.Author.Needs.{needs}
 use Rattle.conform.proofs.answer.Statement.{statement}
@@ -16,7 +15,7 @@ slice-reshare-prefix-sheet-run : tie.Need-slice-reshare-prefix-sheet-run
 slice-reshare-prefix-sheet-run c = search needs
 
 slice-aggregate-sheet-run : tie.Need-slice-aggregate-sheet-run
-slice-aggregate-sheet-run c = simp length-take (omega arith)
+slice-aggregate-sheet-run c = simp length-take (search needs)
 
 sheet-run-requires : tie.Need-sheet-run-requires
 sheet-run-requires c κs = search needs
@@ -25,7 +24,7 @@ slice-reshare-prefix-compile : tie.Need-slice-reshare-prefix-compile
 slice-reshare-prefix-compile c = search needs
 
 slice-aggregate-compile : tie.Need-slice-aggregate-compile
-slice-aggregate-compile c = simp length-take (omega arith)
+slice-aggregate-compile c = simp length-take (search needs)
 
 compile-requires : tie.Need-compile-requires
 compile-requires c κs = search needs

@@ -1,7 +1,6 @@
 -- `conform::answer_table` meets its contract: the current table lies within the words lent, and these within the words for it, before and after.
 -- Assumes nothing.
 use lib.ListN.{length-take}
-use native.Mathlib.Omega.{arith}
 use borrow.Author.Needs.{needs}
 use Rattle.conform.proofs.answer_table.Statement.{statement}
 use Rattle.conform.proofs.answer_table.Tie as tie
@@ -10,7 +9,7 @@ slice-reshare-prefix-table-run : tie.Need-slice-reshare-prefix-table-run
 slice-reshare-prefix-table-run c = search needs
 
 slice-aggregate-table-run : tie.Need-slice-aggregate-table-run
-slice-aggregate-table-run c = simp length-take (omega arith)
+slice-aggregate-table-run c = simp length-take (search needs)
 
 table-run-requires : tie.Need-table-run-requires
 table-run-requires c κs = search needs
@@ -19,7 +18,7 @@ slice-relend-prefix-write-word : tie.Need-slice-relend-prefix-write-word
 slice-relend-prefix-write-word c = search needs
 
 slice-aggregate-write-word : tie.Need-slice-aggregate-write-word
-slice-aggregate-write-word c = simp length-take (omega arith)
+slice-aggregate-write-word c = simp length-take (search needs)
 
 write-word-requires : tie.Need-write-word-requires
 write-word-requires c κs = search needs

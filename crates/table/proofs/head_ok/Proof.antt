@@ -6,7 +6,6 @@ use mathlib.Core.Path.{sym}
 use borrow.Author.Tests.{ltb-true, ltb-false, eqb-true, eqb-false, not-true, not-false}
 use Rattle.sets.proofs.Tests.{is-false}
 use Rattle.meaning.specs.Table.{wordIn, kIn, tIn, bIn}
-use Rattle.table.specs.Parts.{tableHeadOk}
 use Rattle.table.proofs.Places.{head-of, head-is}
 use Rattle.table.proofs.head_ok.Statement.{statement}
 use Rattle.table.proofs.head_ok.Tie as tie
@@ -17,11 +16,10 @@ shared-slice-read-if2 c = search needs
 returns : tie.Need-returns
 unfolding wordIn
 returns c =
-    let w = c .before .args .table .now in
-    sym (is-false (tableHeadOk w) (λ h.
+    sym (is-false _ (λ h.
     ⊎-elim
-    (λ v. omega (arith, head-of w h))
-    (λ v. eqb-false _ _ (not-true _ (v .2 .taken)) (head-of w h .one))
+    (λ v. omega (arith, head-of _ h))
+    (λ v. eqb-false _ _ (not-true _ (v .2 .taken)) (head-of _ h .one))
     (c .if1 .came)))
 
 shared-slice-read-if3 : tie.Need-shared-slice-read-if3
@@ -39,9 +37,8 @@ shared-slice-read-if6 c = search needs
 returns-2 : tie.Need-returns-2
 unfolding kIn tIn bIn wordIn
 returns-2 c =
-    let w = c .before .before .before .before .before .args .table .now in
-    sym (is-false (tableHeadOk w) (λ h.
-    let r = head-of w h in
+    sym (is-false _ (λ h.
+    let r = head-of _ h in
     ⊎-elim
     (λ v. omega arith)
     (⊎-elim
@@ -73,9 +70,8 @@ add-result-2 c = omega (arith, c .shared-slice-known7 .given 2, c .shared-slice-
 returns-3 : tie.Need-returns-3
 unfolding kIn tIn bIn wordIn
 returns-3 c =
-    let s = c .before .before .before .before .before .before .before .before .before .before .before .before .before in
     sym
-    (head-is (s .args .table .now) (omega arith) (eqb-true _ _ (not-false _ (c .before .before .before .before .before .before .before .before .before .before .if2 .left)))
+    (head-is _ (omega arith) (eqb-true _ _ (not-false _ (c .before .before .before .before .before .before .before .before .before .before .if2 .left)))
     (omega (arith, ltb-false)) (omega (arith, ltb-false)) (omega (arith, ltb-false)) (omega (arith, ltb-false)))
 
 pub head-ok-spec : {M : Type 1} → statement M

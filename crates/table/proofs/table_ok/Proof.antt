@@ -11,15 +11,10 @@ head-ok-requires : tie.Need-head-ok-requires
 head-ok-requires c κs = search needs
 
 timers-ok-requires : tie.Need-timers-ok-requires
-timers-ok-requires c κs =
-    let h = c .before in
-    of-true (passed (h .head-ok .ensures) (c .if1 .left))
+timers-ok-requires c κs = of-true (passed (c .before .head-ok .ensures) (c .if1 .left))
 
 pairs-ok-requires : tie.Need-pairs-ok-requires
-pairs-ok-requires c κs =
-    let t = c .before in
-    let h = t .before .before in
-    of-true (passed (h .head-ok .ensures) (t .before .if1 .left))
+pairs-ok-requires c κs = of-true (passed (c .before .before .before .head-ok .ensures) (c .before .before .if1 .left))
 
 returns : tie.Need-returns
 returns c =
@@ -34,10 +29,8 @@ returns c =
 
 blocks-ok-requires : tie.Need-blocks-ok-requires
 blocks-ok-requires c κs =
-    let p = c .before in
-    let t = p .before .before in
-    let h = t .before .before in
-    (of-true (passed (h .head-ok .ensures) (t .before .if1 .left)), of-true (passed (p .pairs-ok .ensures) (c .if3 .left)))
+    let t = c .before .before .before in
+    (of-true (passed (t .before .before .head-ok .ensures) (t .before .if1 .left)), of-true (passed (c .before .pairs-ok .ensures) (c .if3 .left)))
 
 returns-2 : tie.Need-returns-2
 returns-2 c =

@@ -7,7 +7,7 @@ use mathlib.Core.Bool.{true}
 use Prim.Native.Nat.{_≤_, _-_, zero-le}
 use Rattle.sets.specs.Sets.{every}
 use Rattle.sets.proofs.Loops.{every-start, every-next, every-fails, every-done, passed, failed}
-use Rattle.meaning.specs.Table.{wordIn, tIn, sourceIn, delayIn, timerOk}
+use Rattle.meaning.specs.Table.{wordIn, sourceIn, delayIn, timerOk}
 use Rattle.table.proofs.Places.{head-of}
 use Rattle.table.proofs.timers_ok.Statement.{statement}
 use Rattle.table.proofs.timers_ok.Tie as tie
@@ -41,7 +41,7 @@ unfolding timerOk sourceIn delayIn wordIn
 returns c =
     let l = c .before .before .before .before .loop in
     let w = c .before .before .before .before .before .before .before .args .table .now in
-    sym (every-fails (timerOk w) (tIn w) (l .t) (omega arith) (failed (c .before .timer-ok .ensures) (c .if1 .taken)))
+    sym (every-fails (timerOk w) _ (l .t) (omega arith) (failed (c .before .timer-ok .ensures) (c .if1 .taken)))
 
 add-t : tie.Need-add-t Inv-loop μ-loop
 add-t c = search needs
@@ -57,10 +57,7 @@ loop-again c =
     (omega arith, every-next (timerOk w) (l .t) (l .inv .1) (passed (c .before .timer-ok .ensures) (c .if1 .left)))
 
 returns-2 : tie.Need-returns-2 Inv-loop μ-loop
-returns-2 c =
-    let l = c .before .loop in
-    let w = c .before .before .before .before .args .table .now in
-    sym (every-done (timerOk w) (tIn w) (l .t) (omega arith) (omega arith) (l .inv .1))
+returns-2 c = sym (every-done _ _ _ (omega arith) (omega arith) (c .before .loop .inv .1))
 
 pub timers-ok-spec : {M : Type 1} → statement M
 timers-ok-spec =

@@ -1,6 +1,5 @@
 -- `conform::cases::check` meets its contract: the sheet lies within the words for it. Assumes nothing.
 use lib.ListN.{length-take}
-use native.Mathlib.Omega.{arith}
 use borrow.Author.Needs.{needs}
 use Rattle.conform.proofs.cases.check.Statement.{statement}
 use Rattle.conform.proofs.cases.check.Tie as tie
@@ -15,7 +14,7 @@ slice-relend-prefix-numbers : tie.Need-slice-relend-prefix-numbers
 slice-relend-prefix-numbers c = search needs
 
 slice-aggregate-numbers : tie.Need-slice-aggregate-numbers
-slice-aggregate-numbers c = simp length-take (omega arith)
+slice-aggregate-numbers c = simp length-take (search needs)
 
 numbers-requires : tie.Need-numbers-requires
 numbers-requires c κs = search needs
@@ -24,7 +23,7 @@ slice-reshare-prefix-check : tie.Need-slice-reshare-prefix-check
 slice-reshare-prefix-check c = search needs
 
 slice-aggregate-check : tie.Need-slice-aggregate-check
-slice-aggregate-check c = simp length-take (omega arith)
+slice-aggregate-check c = simp length-take (search needs)
 
 check-requires : tie.Need-check-requires
 check-requires c κs = search needs

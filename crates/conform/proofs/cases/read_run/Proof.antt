@@ -1,6 +1,5 @@
 -- `conform::cases::read_run` meets its contract: the input sets read lie within the words for them. Assumes nothing.
 use lib.ListN.{length-take}
-use native.Mathlib.Omega.{arith}
 use borrow.Author.Needs.{needs}
 use Rattle.conform.proofs.cases.read_run.Statement.{statement}
 use Rattle.conform.proofs.cases.read_run.Tie as tie
@@ -27,7 +26,7 @@ slice-relend-prefix-numbers : tie.Need-slice-relend-prefix-numbers
 slice-relend-prefix-numbers c = search needs
 
 slice-aggregate-numbers : tie.Need-slice-aggregate-numbers
-slice-aggregate-numbers c = simp length-take (omega arith)
+slice-aggregate-numbers c = simp length-take (search needs)
 
 numbers-requires : tie.Need-numbers-requires
 numbers-requires c κs = search needs

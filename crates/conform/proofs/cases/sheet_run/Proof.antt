@@ -1,6 +1,5 @@
 -- `conform::cases::sheet_run` is safe and ends: the input sets and output words asked for lie within the arrays. Assumes nothing.
 use lib.ListN.{length-take}
-use native.Mathlib.Omega.{arith}
 use borrow.Author.Needs.{needs}
 use Rattle.conform.proofs.cases.sheet_run.Statement.{statement}
 use Rattle.conform.proofs.cases.sheet_run.Tie as tie
@@ -15,13 +14,13 @@ array-share-prefix-inputs : tie.Need-array-share-prefix-inputs
 array-share-prefix-inputs c = search needs
 
 slice-aggregate-run-sheet : tie.Need-slice-aggregate-run-sheet
-slice-aggregate-run-sheet c = simp length-take (omega arith)
+slice-aggregate-run-sheet c = simp length-take (search needs)
 
 array-borrow-prefix-out : tie.Need-array-borrow-prefix-out
 array-borrow-prefix-out c = search needs
 
 slice-aggregate-run-sheet-2 : tie.Need-slice-aggregate-run-sheet-2
-slice-aggregate-run-sheet-2 c = simp length-take (omega arith)
+slice-aggregate-run-sheet-2 c = simp length-take (search needs)
 
 run-sheet-requires : tie.Need-run-sheet-requires
 run-sheet-requires c κs = search needs

@@ -1,6 +1,5 @@
 -- `conform::compile_case::compile` meets its contract: the words lent lie within the arrays, and the table within those lent. Assumes nothing.
 use lib.ListN.{length-take}
-use native.Mathlib.Omega.{arith}
 use borrow.Author.Needs.{needs}
 use Rattle.conform.proofs.compile_case.compile.Statement.{statement}
 use Rattle.conform.proofs.compile_case.compile.Tie as tie
@@ -21,13 +20,13 @@ slice-relend-prefix-compile-sheet : tie.Need-slice-relend-prefix-compile-sheet
 slice-relend-prefix-compile-sheet c = search needs
 
 slice-aggregate-compile-sheet : tie.Need-slice-aggregate-compile-sheet
-slice-aggregate-compile-sheet c = simp length-take (omega arith)
+slice-aggregate-compile-sheet c = simp length-take (search needs)
 
 array-borrow-prefix-work : tie.Need-array-borrow-prefix-work
 array-borrow-prefix-work c = search needs
 
 slice-aggregate-compile-sheet-2 : tie.Need-slice-aggregate-compile-sheet-2
-slice-aggregate-compile-sheet-2 c = simp length-take (omega arith)
+slice-aggregate-compile-sheet-2 c = simp length-take (search needs)
 
 compile-sheet-requires : tie.Need-compile-sheet-requires
 compile-sheet-requires c κs = search needs

@@ -1,6 +1,5 @@
 -- `conform::table_case::table_run` is safe and ends: the input sets and output words asked for lie within the arrays. Assumes nothing.
 use lib.ListN.{length-take}
-use native.Mathlib.Omega.{arith}
 use borrow.Author.Needs.{needs}
 use Rattle.conform.proofs.table_case.table_run.Statement.{statement}
 use Rattle.conform.proofs.table_case.table_run.Tie as tie
@@ -15,13 +14,13 @@ array-share-prefix-inputs : tie.Need-array-share-prefix-inputs
 array-share-prefix-inputs c = search needs
 
 slice-aggregate-run-table : tie.Need-slice-aggregate-run-table
-slice-aggregate-run-table c = simp length-take (omega arith)
+slice-aggregate-run-table c = simp length-take (search needs)
 
 array-borrow-prefix-out : tie.Need-array-borrow-prefix-out
 array-borrow-prefix-out c = search needs
 
 slice-aggregate-run-table-2 : tie.Need-slice-aggregate-run-table-2
-slice-aggregate-run-table-2 c = simp length-take (omega arith)
+slice-aggregate-run-table-2 c = simp length-take (search needs)
 
 run-table-requires : tie.Need-run-table-requires
 run-table-requires c κs = search needs

@@ -1,12 +1,11 @@
 -- `conform::text::send` is safe and ends: the bytes written lie within the line. Assumes nothing.
 use lib.ListN.{length-take}
-use native.Mathlib.Omega.{arith}
 use borrow.Author.Needs.{needs}
 use Rattle.conform.proofs.text.send.Statement.{statement}
 use Rattle.conform.proofs.text.send.Tie as tie
 
 slice-aggregate-write-all : tie.Need-slice-aggregate-write-all
-slice-aggregate-write-all c = simp length-take (omega arith)
+slice-aggregate-write-all c = simp length-take (search needs)
 
 write-all-requires : tie.Need-write-all-requires
 write-all-requires c κs = search needs

@@ -5,7 +5,6 @@ use mathlib.Core.Path.{_≡_, refl, sym, _∙_}
 use mathlib.Core.Logic.{⊎-elim}
 use mathlib.Core.List.{[], _++_, append-nil}
 use Prim.Native.Nat.{_+_, _-_, _*_, _≤_}
-use native.Mathlib.Omega.{arith}
 use lib.ListN.{length, take, drop, length-set}
 use lib.Seq.{length-take-le}
 use Rattle.decimals.specs.Printing.{lineOf}
@@ -54,10 +53,10 @@ loop-again c =
     let row = h .before .before .before .args .row .now in
     let byte : c .if1 .line ≡ mark (drop (l .j + 1) row) =
     ⊎-elim (λ w. w .1 ∙ sym (mark-more row (l .j + 1) (w .0 .taken))) (λ w. w .1 ∙ sym (mark-last row (l .j + 1) (w .0 .left))) (c .if1 .came) in
-    let turn = row-turn (l .line) row (l .at) (l .j) (p .result) (c .if1 .line) (search needs) (p .ensures .1) (omega arith) byte in (
+    let turn = row-turn (l .line) row (l .at) (l .j) (p .result) (c .if1 .line) (search needs) (p .ensures .1) (search needs) byte in (
       search needs,
-      omega arith,
-      simp length-set (omega arith),
+      search needs,
+      simp length-set (search needs),
       rw (p .ensures .0) (turn ∙ l .inv .3),
     )
 

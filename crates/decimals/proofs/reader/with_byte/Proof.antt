@@ -3,9 +3,8 @@ use borrow.Author.Needs.{needs}
 use borrow.Author.Tests.{leb-true, leb-false, eqb-true, eqb-false}
 use mathlib.Core.Path.{_≡_, sym, _∙_}
 use mathlib.Core.Logic.{⊎-elim, inl, inr}
-use mathlib.Core.Bool.{true, false}
-use Rattle.decimals.specs.Numbers.{isDigit, isGap}
-use Rattle.decimals.specs.Reading.{readingOf}
+use mathlib.Core.Bool.{false}
+use Rattle.decimals.specs.Numbers.{isDigit}
 use Rattle.decimals.proofs.Steps.{digit-is, digit-not, gap-is, gap-not, byte-digit, byte-gap, byte-other}
 use Rattle.decimals.proofs.reader.with_byte.Statement.{statement}
 use Rattle.decimals.proofs.reader.with_byte.Tie as tie
@@ -20,10 +19,7 @@ with-digit-requires : tie.Need-with-digit-requires
 with-digit-requires c κs = search needs
 
 returns : tie.Need-returns
-returns c =
-    let a = c .before .before .before .before .args in
-    let here : isDigit (a .byte) ≡ true = digit-is (a .byte) (c .before .before .if1 .taken) (leb-true (a .byte) 57 (c .before .if2 .taken)) in
-    c .with-digit .ensures (a .words .now) ∙ sym (byte-digit (readingOf (a .x) (a .words .now)) (a .byte) here)
+returns c = c .with-digit .ensures _ ∙ sym (byte-digit _ _ (digit-is _ (c .before .before .if1 .taken) (leb-true _ 57 (c .before .if2 .taken))))
 
 with-gap-requires : tie.Need-with-gap-requires
 with-gap-requires c κs = search needs
@@ -34,19 +30,16 @@ same-length c = search needs
 returns-2 : tie.Need-returns-2
 returns-2 c =
     let j = c .before .before .before .before in
-    let a = j .before .before .before .args in
-    let here : isGap (a .byte) ≡ true = gap-is (a .byte) (⊎-elim (λ w. inl (w .taken)) (λ w. inr (eqb-true (a .byte) 10 (w .1 .taken))) (j .if3 .came)) in
-    c .before .before .with-gap .ensures ∙ sym (byte-gap (readingOf (a .x) (a .words .now)) (a .byte) (no-digit (j .before)) here)
+    let here = gap-is _ (⊎-elim (λ w. inl (w .taken)) (λ w. inr (eqb-true _ 10 (w .1 .taken))) (j .if3 .came)) in
+    c .before .before .with-gap .ensures ∙ sym (byte-gap _ _ (no-digit (j .before)) here)
 
 refused-requires : tie.Need-refused-requires
 refused-requires c κs = search needs
 
 returns-3 : tie.Need-returns-3
 returns-3 c =
-    let j = c .before .before .before in
-    let a = j .before .before .args in
-    let here : isGap (a .byte) ≡ false = gap-not (a .byte) (c .before .before .if3 .left) (eqb-false (a .byte) 10 (c .before .if4 .left)) in
-    c .refused .ensures (a .words .now) ∙ sym (byte-other (readingOf (a .x) (a .words .now)) (a .byte) (no-digit j) here)
+    let here = gap-not _ (c .before .before .if3 .left) (eqb-false _ 10 (c .before .if4 .left)) in
+    c .refused .ensures _ ∙ sym (byte-other _ _ (no-digit (c .before .before .before)) here)
 
 pub with-byte-spec : {M : Type 1} → statement M
 with-byte-spec =

@@ -4,7 +4,6 @@ use mathlib.Core.Path.{sym, _∙_}
 use mathlib.Core.List.{List}
 use Prim.Native.Nat.{ℕ}
 use Rattle.decimals.specs.Numbers.{longer}
-use Rattle.decimals.specs.Reading.{readingOf}
 use Rattle.decimals.proofs.Steps.{digit-fits, digit-large}
 use Rattle.decimals.proofs.reader.with_digit.Statement.{statement}
 use Rattle.decimals.proofs.reader.with_digit.Tie as tie
@@ -29,16 +28,14 @@ cast-t9 c = search needs
 
 returns : tie.Need-returns
 unfolding longer
-returns c = λ (words : List ℕ). sym (digit-fits (readingOf (c .before .before .args .x) words) (c .before .before .args .byte) (search needs))
+returns c = λ (words : List ℕ). sym (digit-fits _ _ (search needs))
 
 refused-requires : tie.Need-refused-requires
 refused-requires c κs = search needs
 
 returns-2 : tie.Need-returns-2
 unfolding longer
-returns-2 c = λ (words : List ℕ).
-    let a = c .before .before .before .args in
-    c .refused .ensures words ∙ sym (digit-large (readingOf (a .x) words) (a .byte) (search needs))
+returns-2 c = λ (words : List ℕ). c .refused .ensures words ∙ sym (digit-large _ _ (search needs))
 
 pub with-digit-spec : {M : Type 1} → statement M
 with-digit-spec =

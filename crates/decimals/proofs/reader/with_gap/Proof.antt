@@ -3,23 +3,18 @@ use borrow.Author.Needs.{needs}
 use borrow.Author.Tests.{not-true, not-false}
 use mathlib.Core.Path.{sym, _∙_}
 use native.Mathlib.Numerals.{add-one}
-use Rattle.decimals.specs.Reading.{readingOf}
 use Rattle.decimals.proofs.Steps.{gap-none, gap-put, gap-full}
 use Rattle.decimals.proofs.reader.with_gap.Statement.{statement}
 use Rattle.decimals.proofs.reader.with_gap.Tie as tie
 
 returns : tie.Need-returns
-returns c =
-    let a = c .before .before .before .args in
-    sym (gap-none (readingOf (a .x) (a .words .now)) (not-true (a .x .pending) (c .if1 .taken)))
+returns c = sym (gap-none _ (not-true _ (c .if1 .taken)))
 
 refused-requires : tie.Need-refused-requires
 refused-requires c κs = search needs
 
 returns-2 : tie.Need-returns-2
-returns-2 c =
-    let a = c .before .before .before .before .before .args in
-    c .refused .ensures (a .words .now) ∙ sym (gap-full (readingOf (a .x) (a .words .now)) (not-false (a .x .pending) (c .before .before .if1 .left)) (search needs))
+returns-2 c = c .refused .ensures _ ∙ sym (gap-full _ (not-false _ (c .before .before .if1 .left)) (search needs))
 
 mul-words : tie.Need-mul-words
 mul-words c = search needs
@@ -34,9 +29,7 @@ same-length : tie.Need-same-length
 same-length c = search needs
 
 returns-3 : tie.Need-returns-3
-returns-3 c =
-    let a = c .before .before .before .before .args in
-    rw add-one (sym (gap-put (readingOf (a .x) (a .words .now)) (not-false (a .x .pending) (c .before .if1 .left)) (search needs)))
+returns-3 c = rw add-one (sym (gap-put _ (not-false _ (c .before .if1 .left)) (search needs)))
 
 pub with-gap-spec : {M : Type 1} → statement M
 with-gap-spec =

@@ -4,10 +4,8 @@ use borrow.Author.Tests.{ltb-true, ltb-false}
 use native.Mathlib.Omega.{arith}
 use mathlib.Core.Path.{sym}
 use mathlib.Core.Logic.{⊎-elim}
-use Prim.Native.Nat.{_+_}
-use lib.ListN.{getD}
 use Rattle.decimals.specs.Request.{sheetLength, tickCount}
-use Rattle.decimals.proofs.Requests.{Accepted, unaccepted, last-test}
+use Rattle.decimals.proofs.Requests.{unaccepted, last-test}
 use Rattle.decimals.proofs.request.request_ok.Statement.{statement}
 use Rattle.decimals.proofs.request.request_ok.Tie as tie
 
@@ -16,10 +14,7 @@ shared-slice-read-if2 c = search needs
 
 returns : tie.Need-returns
 unfolding sheetLength
-returns c =
-    let numbers = c .before .args .numbers .now in
-    let large = ltb-true 2403 (getD numbers 0 0) in
-    sym (unaccepted numbers (λ (k : Accepted numbers). ⊎-elim (λ w. omega arith) (λ w. omega (arith, large (w .2 .taken))) (c .if1 .came)))
+returns c = sym (unaccepted _ (λ k. ⊎-elim (λ w. omega arith) (λ w. omega (arith, ltb-true)) (c .if1 .came)))
 
 shared-slice-read-sheet : tie.Need-shared-slice-read-sheet
 shared-slice-read-sheet c = search needs
@@ -41,10 +36,7 @@ shared-slice-read-if4 c = search needs
 
 returns-2 : tie.Need-returns-2
 unfolding sheetLength tickCount
-returns-2 c =
-    let numbers = c .before .before .before .before .before .args .numbers .now in
-    let large = ltb-true 1024 (getD numbers (1 + getD numbers 0 0) 0) in
-    sym (unaccepted numbers (λ (k : Accepted numbers). ⊎-elim (λ w. omega arith) (λ w. omega (arith, large (w .2 .taken))) (c .if3 .came)))
+returns-2 c = sym (unaccepted _ (λ k. ⊎-elim (λ w. omega arith) (λ w. omega (arith, ltb-true)) (c .if3 .came)))
 
 add-result : tie.Need-add-result
 add-result c = search needs
@@ -66,9 +58,7 @@ add-result-3 c = omega (arith, ltb-false)
 
 returns-3 : tie.Need-returns-3
 unfolding sheetLength tickCount
-returns-3 c =
-    let numbers = c .before .before .before .before .before .before .before .before .args .numbers .now in
-    last-test numbers (omega arith) (omega (arith, ltb-false)) (omega arith) (omega (arith, ltb-false))
+returns-3 c = last-test _ (omega arith) (omega (arith, ltb-false)) (omega arith) (omega (arith, ltb-false))
 
 pub request-ok-spec : {M : Type 1} → statement M
 request-ok-spec =

@@ -1,6 +1,5 @@
 -- `sheet::ends::distinct_ok` meets its contract: no transition below t shares its ends with a lower one.
 -- The measure is what is left of the count. Assumes nothing.
-use native.Mathlib.Omega.{arith}
 use borrow.Author.Needs.{needs}
 use mathlib.Core.Path.{_≡_, sym, ap, _∙_}
 use mathlib.Core.Bool.{false, not}
@@ -24,15 +23,11 @@ loop-holds : tie.Need-loop-holds Inv-loop μ-loop
 loop-holds c = (zero-le, some-start _)
 
 shares-ends-requires : tie.Need-shares-ends-requires Inv-loop μ-loop
-shares-ends-requires c κs =
-    let q = c .before .before .before .before .pre in
-    record { head = q .0; pairs = q .1; transition = omega arith }
+shares-ends-requires c κs = search needs
 
 returns : tie.Need-returns Inv-loop μ-loop
 unfolding distinctOk
-returns c =
-    let l = c .before .before .before .loop in
-    sym (ap not (some-found _ _ (l .t) (omega arith) (sym (c .before .shares-ends .ensures) ∙ c .if1 .taken)))
+returns c = sym (ap not (some-found _ _ _ (search needs) (sym (c .before .shares-ends .ensures) ∙ c .if1 .taken)))
 
 add-t : tie.Need-add-t Inv-loop μ-loop
 add-t c = search needs
@@ -41,15 +36,11 @@ loop-less : tie.Need-loop-less Inv-loop μ-loop
 loop-less c = search needs
 
 loop-again : tie.Need-loop-again Inv-loop μ-loop
-loop-again c =
-    let l = c .before .before .before .loop in
-    (omega arith, some-next _ (l .t) (l .inv .1) (sym (c .before .shares-ends .ensures) ∙ c .if1 .left))
+loop-again c = (search needs, some-next _ _ (c .before .before .before .loop .inv .1) (sym (c .before .shares-ends .ensures) ∙ c .if1 .left))
 
 returns-2 : tie.Need-returns-2 Inv-loop μ-loop
 unfolding distinctOk
-returns-2 c =
-    let l = c .before .loop in
-    sym (ap not (some-done _ _ (l .t) (omega arith) (omega arith) (l .inv .1)))
+returns-2 c = sym (ap not (some-done _ _ _ (search needs) (search needs) (c .before .loop .inv .1)))
 
 pub distinct-ok-spec : {M : Type 1} → statement M
 distinct-ok-spec =

@@ -1,17 +1,15 @@
 -- `sheet::ends::shares_ends` meets its contract: no transition below u has both ends of t.
 -- The measure is what is left of t. Assumes nothing.
-use native.Mathlib.Omega.{arith}
 use borrow.Author.Needs.{needs}
 use mathlib.Core.Logic.{⊎-elim}
-use mathlib.Core.Path.{_≡_, sym, _∙_}
-use mathlib.Core.Bool.{false, _&&_}
+use mathlib.Core.Path.{_≡_, sym, ap₂, _∙_}
+use mathlib.Core.Bool.{false, _&&_, and-false}
 use Prim.Native.Nat.{_≤_, _-_, zero-le}
 use lib.Dec.{eqb}
-use borrow.Author.Tests.{eqb-true, eqb-false}
+use borrow.Author.Tests.{eqb-true, eqb-false, eq-eqb, ne-eqb}
 use Rattle.sets.specs.Sets.{some}
 use Rattle.meaning.specs.Sheet.{source, target}
 use Rattle.meaning.specs.Check.{sharesEnds}
-use Rattle.sheet.proofs.SheetTestLaws.{ends-same, source-other, target-other}
 use Rattle.sets.proofs.Loops.{some-start, some-next, some-found, some-done}
 use Rattle.sheet.proofs.ends.shares_ends.Statement.{statement}
 use Rattle.sheet.proofs.ends.shares_ends.Tie as tie
@@ -32,24 +30,20 @@ loop-holds : tie.Need-loop-holds Inv-loop μ-loop
 loop-holds c = (zero-le, some-start _)
 
 source-requires-2 : tie.Need-source-requires-2 Inv-loop μ-loop
-source-requires-2 c κs =
-    let q = c .before .before .before .before .before .pre in
-    record { head = q .head; pairs = q .pairs; transition = omega arith }
+source-requires-2 c κs = search needs
 
 target-requires-2 : tie.Need-target-requires-2 Inv-loop μ-loop
-target-requires-2 c κs =
-    let q = c .before .before .before .before .before .before .before .pre in
-    record { head = q .head; pairs = q .pairs; transition = omega arith }
+target-requires-2 c κs = search needs
 
 returns : tie.Need-returns Inv-loop μ-loop
 unfolding sharesEnds
 returns c =
-    let l = c .before .before .before .before .before .loop in
+    let a = c .before .before .before in
     sym
-    (some-found _ _ (l .u) (c .before .before .before .before .loop-test .taken)
-    (ends-same _ _ _
-    (sym (c .before .before .before .source2 .ensures) ∙ c .before .before .if1 .taken ∙ c .before .before .before .before .before .before .before .source .ensures)
-    (sym (c .before .target2 .ensures) ∙ eqb-true _ _ (c .if2 .taken) ∙ c .before .before .before .before .before .before .target .ensures)))
+    (some-found _ _ _ (a .before .loop-test .taken)
+    (ap₂ _&&_
+    (eq-eqb _ _ (sym (a .source2 .ensures) ∙ c .before .before .if1 .taken ∙ a .before .before .before .before .source .ensures))
+    (eq-eqb _ _ (sym (c .before .target2 .ensures) ∙ eqb-true _ _ (c .if2 .taken) ∙ a .before .before .before .target .ensures))))
 
 add-u : tie.Need-add-u Inv-loop μ-loop
 add-u c = search needs
@@ -59,21 +53,18 @@ loop-less c = search needs
 
 loop-again : tie.Need-loop-again Inv-loop μ-loop
 loop-again c =
-    let l = c .before .before .before .loop in
-    let g = c .before .before .before .before .before .before .before .args in (
-      omega arith,
+    let l = c .before .before .before .loop in (
+      search needs,
       some-next _ (l .u) (l .inv .1)
           (⊎-elim
-          (λ w. target-other (g .sheet .now) (g .t) (l .u) (λ e. eqb-false _ _ (w .2 .left) (w .1 .ensures ∙ e ∙ sym (c .before .before .before .before .target .ensures))))
-          (λ w. source-other (g .sheet .now) (g .t) (l .u) (λ e. w .left (c .before .source2 .ensures ∙ e ∙ sym (c .before .before .before .before .before .source .ensures))))
+          (λ w. rw (ne-eqb _ _ (λ e. eqb-false _ _ (w .2 .left) (w .1 .ensures ∙ e ∙ sym (c .before .before .before .before .target .ensures))), and-false))
+          (λ w. rw (ne-eqb _ _ (λ e. w .left (c .before .source2 .ensures ∙ e ∙ sym (c .before .before .before .before .before .source .ensures)))))
           (c .if1 .came)),
     )
 
 returns-2 : tie.Need-returns-2 Inv-loop μ-loop
 unfolding sharesEnds
-returns-2 c =
-    let l = c .before .loop in
-    sym (some-done _ _ (l .u) (omega arith) (omega arith) (l .inv .1))
+returns-2 c = sym (some-done _ _ _ (search needs) (search needs) (c .before .loop .inv .1))
 
 pub shares-ends-spec : {M : Type 1} → statement M
 shares-ends-spec =

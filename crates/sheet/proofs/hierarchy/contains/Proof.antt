@@ -35,8 +35,7 @@ loop-again c =
 
 returns : tie.Need-returns Inv-loop μ-loop
 returns c =
-    let l = c .before .loop in
-    sym (l .inv .1 ∙ contains-end (rooted-tree (c .before .before .before .pre .0)) _ (l .x) (c .loop-test .left) (l .inv .0))
+    sym (c .before .loop .inv .1 ∙ contains-end (rooted-tree (c .before .before .before .pre .0)) _ _ (c .loop-test .left) (c .before .loop .inv .0))
 
 pub contains-spec : {M : Type 1} → statement M
 contains-spec =

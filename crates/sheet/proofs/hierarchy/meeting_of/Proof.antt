@@ -6,7 +6,8 @@ use mathlib.Core.Path.{_≡_, sym, _∙_}
 use Prim.Native.Nat.{_<_}
 use Rattle.meaning.specs.Sheet.{nOf, meetingFrom, meetingOf}
 use Rattle.meaning.proofs.SheetLaws.{parent-n}
-use Rattle.sheet.proofs.Climb.{rooted-tree, meeting-start, meeting-step, meeting-found, meeting-none}
+use Rattle.meaning.proofs.Fuel.{meeting-climbs, climb-found, climb-step}
+use Rattle.sheet.proofs.Climb.{rooted-tree, meeting-start, meeting-none}
 use Rattle.sets.proofs.Loops.{passed, failed}
 use Rattle.sheet.proofs.hierarchy.meeting_of.Statement.{statement}
 use Rattle.sheet.proofs.hierarchy.meeting_of.Tie as tie
@@ -42,13 +43,13 @@ loop-again c =
     let l = c .before .before .before .before .loop in
     let ro = rooted-tree (c .before .before .before .before .before .before .before .pre .0) in
     let not-yet = failed (c .before .before .strictly-contains .ensures) (c .before .if1 .taken) in
-    rw (c .parent2 .ensures) (parent-n _ ro (l .p) (l .inv .0), l .inv .1 ∙ meeting-step ro (l .p) _ (c .before .before .before .loop-test .taken) (l .inv .0) not-yet)
+    rw (c .parent2 .ensures) (parent-n _ ro (l .p) (l .inv .0), l .inv .1 ∙ climb-step ro (meeting-climbs _ _) (l .p) (omega arith) (l .inv .0) not-yet)
 
 returns : tie.Need-returns Inv-loop μ-loop
 returns c =
     let l = c .before .before .before .loop in
     let ro = rooted-tree (c .before .before .before .before .before .before .pre .0) in
-    (sym (l .inv .1 ∙ meeting-found ro (l .p) _ (passed (c .before .strictly-contains .ensures) (c .if1 .left))), l .inv .0)
+    (sym (l .inv .1 ∙ climb-found ro (meeting-climbs _ _) (l .p) _ (passed (c .before .strictly-contains .ensures) (c .if1 .left))), l .inv .0)
 
 returns-2 : tie.Need-returns-2 Inv-loop μ-loop
 returns-2 c =

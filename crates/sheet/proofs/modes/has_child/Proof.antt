@@ -1,6 +1,5 @@
 -- `sheet::modes::has_child` meets its contract: no mode below c is a child of m.
 -- The measure is what is left of n. Assumes nothing.
-use native.Mathlib.Omega.{arith}
 use borrow.Author.Needs.{needs}
 use mathlib.Core.Path.{_≡_, sym, _∙_}
 use mathlib.Core.Bool.{false}
@@ -24,12 +23,10 @@ loop-holds : tie.Need-loop-holds Inv-loop μ-loop
 loop-holds c = (zero-le, some-start _)
 
 is-child-requires : tie.Need-is-child-requires Inv-loop μ-loop
-is-child-requires c κs = record { head = c .before .before .before .before .pre; mode = omega arith }
+is-child-requires c κs = record { head = c .before .before .before .before .pre; mode = search needs }
 
 returns : tie.Need-returns Inv-loop μ-loop
-returns c =
-    let l = c .before .before .before .loop in
-    sym (some-found _ _ (l .c) (omega arith) (sym (c .before .is-child .ensures) ∙ c .if1 .taken))
+returns c = sym (some-found _ _ _ (search needs) (sym (c .before .is-child .ensures) ∙ c .if1 .taken))
 
 add-c : tie.Need-add-c Inv-loop μ-loop
 add-c c = search needs
@@ -38,14 +35,10 @@ loop-less : tie.Need-loop-less Inv-loop μ-loop
 loop-less c = search needs
 
 loop-again : tie.Need-loop-again Inv-loop μ-loop
-loop-again c =
-    let l = c .before .before .before .loop in
-    (omega arith, some-next _ (l .c) (l .inv .1) (sym (c .before .is-child .ensures) ∙ c .if1 .left))
+loop-again c = (search needs, some-next _ _ (c .before .before .before .loop .inv .1) (sym (c .before .is-child .ensures) ∙ c .if1 .left))
 
 returns-2 : tie.Need-returns-2 Inv-loop μ-loop
-returns-2 c =
-    let l = c .before .loop in
-    sym (some-done _ _ (l .c) (omega arith) (omega arith) (l .inv .1))
+returns-2 c = sym (some-done _ _ _ (search needs) (search needs) (c .before .loop .inv .1))
 
 pub has-child-spec : {M : Type 1} → statement M
 has-child-spec =

@@ -1,6 +1,5 @@
 -- `sheet::modes::modes_ok` meets its contract: every mode below m has a sound row.
 -- The measure is what is left of n. Assumes nothing.
-use native.Mathlib.Omega.{arith}
 use borrow.Author.Needs.{needs}
 use mathlib.Core.Path.{_≡_, sym}
 use mathlib.Core.Bool.{true}
@@ -24,13 +23,11 @@ loop-holds : tie.Need-loop-holds Inv-loop μ-loop
 loop-holds c = (zero-le, every-start _)
 
 mode-ok-requires : tie.Need-mode-ok-requires Inv-loop μ-loop
-mode-ok-requires c κs = record { head = c .before .before .before .before .pre; mode = omega arith }
+mode-ok-requires c κs = record { head = c .before .before .before .before .pre; mode = search needs }
 
 returns : tie.Need-returns Inv-loop μ-loop
 unfolding modesOk
-returns c =
-    let l = c .before .before .before .loop in
-    sym (every-fails _ _ (l .m) (omega arith) (failed (c .before .mode-ok .ensures) (c .if1 .taken)))
+returns c = sym (every-fails _ _ _ (search needs) (failed (c .before .mode-ok .ensures) (c .if1 .taken)))
 
 add-m : tie.Need-add-m Inv-loop μ-loop
 add-m c = search needs
@@ -39,15 +36,11 @@ loop-less : tie.Need-loop-less Inv-loop μ-loop
 loop-less c = search needs
 
 loop-again : tie.Need-loop-again Inv-loop μ-loop
-loop-again c =
-    let l = c .before .before .before .loop in
-    (omega arith, every-next _ (l .m) (l .inv .1) (passed (c .before .mode-ok .ensures) (c .if1 .left)))
+loop-again c = (search needs, every-next _ _ (c .before .before .before .loop .inv .1) (passed (c .before .mode-ok .ensures) (c .if1 .left)))
 
 returns-2 : tie.Need-returns-2 Inv-loop μ-loop
 unfolding modesOk
-returns-2 c =
-    let l = c .before .loop in
-    sym (every-done _ _ (l .m) (omega arith) (omega arith) (l .inv .1))
+returns-2 c = sym (every-done _ _ _ (search needs) (search needs) (c .before .loop .inv .1))
 
 pub modes-ok-spec : {M : Type 1} → statement M
 modes-ok-spec =

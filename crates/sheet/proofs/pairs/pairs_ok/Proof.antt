@@ -1,6 +1,5 @@
 -- `sheet::pairs::pairs_ok` meets its contract: every pair below t is sound.
 -- The measure is what is left of the count. Assumes nothing.
-use native.Mathlib.Omega.{arith}
 use borrow.Author.Needs.{needs}
 use mathlib.Core.Path.{_≡_}
 use mathlib.Core.Bool.{true}
@@ -25,14 +24,13 @@ loop-holds : tie.Need-loop-holds Inv-loop μ-loop
 loop-holds c = (zero-le, every-start _)
 
 pair-ok-requires : tie.Need-pair-ok-requires Inv-loop μ-loop
-pair-ok-requires c κs = record { head = c .before .before .before .before .pre; transition = omega arith }
+pair-ok-requires c κs = record { head = c .before .before .before .before .pre; transition = search needs }
 
 returns : tie.Need-returns Inv-loop μ-loop
 unfolding pairsOk
 returns c =
-    let l = c .before .before .before .loop in
     let s = c .before .before .before .before .before .before .args .sheet .now in
-    rw (every-fails (pairOk s) (tOf s) (l .t) (omega arith) (failed (c .before .pair-ok .ensures) (c .if1 .taken)))
+    rw (every-fails (pairOk s) (tOf s) _ (search needs) (failed (c .before .pair-ok .ensures) (c .if1 .taken)))
 
 add-t : tie.Need-add-t Inv-loop μ-loop
 add-t c = search needs
@@ -41,9 +39,7 @@ loop-less : tie.Need-loop-less Inv-loop μ-loop
 loop-less c = search needs
 
 loop-again : tie.Need-loop-again Inv-loop μ-loop
-loop-again c =
-    let l = c .before .before .before .loop in
-    (omega arith, every-next _ (l .t) (l .inv .1) (passed (c .before .pair-ok .ensures) (c .if1 .left)))
+loop-again c = (search needs, every-next _ _ (c .before .before .before .loop .inv .1) (passed (c .before .pair-ok .ensures) (c .if1 .left)))
 
 end-before-requires : tie.Need-end-before-requires Inv-loop μ-loop
 end-before-requires c κs = search needs
@@ -53,7 +49,7 @@ unfolding pairsOk
 returns-2 c =
     let l = c .before .before .loop in
     let s = c .before .before .before .before .before .args .sheet .now in
-    rw (every-done (pairOk s) (tOf s) (l .t) (omega arith) (omega arith) (l .inv .1), c .end-before .ensures, c .before .before .before .transition-count .ensures)
+    rw (every-done (pairOk s) (tOf s) _ (search needs) (search needs) (l .inv .1), c .end-before .ensures, c .before .before .before .transition-count .ensures)
 
 pub pairs-ok-spec : {M : Type 1} → statement M
 pairs-ok-spec =

@@ -1,6 +1,5 @@
 -- `sheet::terms::record_ok` meets its contract: every term below j is sound.
 -- The measure is what is left of the count. Assumes nothing.
-use native.Mathlib.Omega.{arith}
 use borrow.Author.Needs.{needs}
 use mathlib.Core.Path.{_≡_, sym}
 use mathlib.Core.Bool.{true}
@@ -24,14 +23,10 @@ loop-holds : tie.Need-loop-holds Inv-loop μ-loop
 loop-holds c = (zero-le, every-start _)
 
 term-ok-requires : tie.Need-term-ok-requires Inv-loop μ-loop
-term-ok-requires c κs =
-    let q = c .before .before .before .before .pre in
-    record { head = q .head; pairs = q .pairs; transition = q .transition; term = omega arith }
+term-ok-requires c κs = search needs
 
 returns : tie.Need-returns Inv-loop μ-loop
-returns c =
-    let l = c .before .before .before .loop in
-    sym (every-fails _ _ (l .j) (omega arith) (failed (c .before .term-ok .ensures) (c .if1 .taken)))
+returns c = sym (every-fails _ _ _ (search needs) (failed (c .before .term-ok .ensures) (c .if1 .taken)))
 
 add-j : tie.Need-add-j Inv-loop μ-loop
 add-j c = search needs
@@ -40,14 +35,10 @@ loop-less : tie.Need-loop-less Inv-loop μ-loop
 loop-less c = search needs
 
 loop-again : tie.Need-loop-again Inv-loop μ-loop
-loop-again c =
-    let l = c .before .before .before .loop in
-    (omega arith, every-next _ (l .j) (l .inv .1) (passed (c .before .term-ok .ensures) (c .if1 .left)))
+loop-again c = (search needs, every-next _ _ (c .before .before .before .loop .inv .1) (passed (c .before .term-ok .ensures) (c .if1 .left)))
 
 returns-2 : tie.Need-returns-2 Inv-loop μ-loop
-returns-2 c =
-    let l = c .before .loop in
-    sym (every-done _ _ (l .j) (omega arith) (omega arith) (l .inv .1))
+returns-2 c = sym (every-done _ _ _ (search needs) (search needs) (c .before .loop .inv .1))
 
 pub record-ok-spec : {M : Type 1} → statement M
 record-ok-spec =

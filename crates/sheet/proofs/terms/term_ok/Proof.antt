@@ -3,7 +3,8 @@ use native.Mathlib.Omega.{arith}
 use borrow.Author.Needs.{needs}
 use mathlib.Core.Path.{sym, _∙_}
 use borrow.Author.Tests.{eq-eqb, ne-eqb}
-use Rattle.sheet.proofs.SheetTestLaws.{head-of, delay-term, event-term, mask-term, mode-term, transition-term, or-term, other-term}
+use Rattle.meaning.specs.Check.{termOk}
+use Rattle.sheet.proofs.SheetTestLaws.{head-of, event-term, mode-term, other-term}
 use Rattle.sheet.proofs.terms.term_ok.Statement.{statement}
 use Rattle.sheet.proofs.terms.term_ok.Tie as tie
 
@@ -41,23 +42,28 @@ mode-count-requires-2 : tie.Need-mode-count-requires-2
 mode-count-requires-2 c κs = search needs
 
 returns : tie.Need-returns
-returns c = rw (delay-term _ _ _ (sym (c .before .before .before .term-kind .ensures) ∙ c .before .before .match .keys1), eq-eqb _ 1 (sym (c .before .term-count .ensures) ∙ c .if1 .taken), c .before .before .before .before .term-value .ensures)
+unfolding termOk
+returns c = rw (sym (c .before .before .before .term-kind .ensures) ∙ c .before .before .match .keys1, eq-eqb _ 1 (sym (c .before .term-count .ensures) ∙ c .if1 .taken), c .before .before .before .before .term-value .ensures)
 
 returns-2 : tie.Need-returns-2
+unfolding termOk
 returns-2 c =
     let n = c .before .term-count .ensures in
-    rw (delay-term _ _ _ (sym (c .before .before .before .term-kind .ensures) ∙ c .before .before .match .keys1), n, ne-eqb _ 1 (λ e. c .if1 .left (n ∙ e)))
+    rw (sym (c .before .before .before .term-kind .ensures) ∙ c .before .before .match .keys1, n, ne-eqb _ 1 (λ e. c .if1 .left (n ∙ e)))
 
 returns-3 : tie.Need-returns-3
+unfolding termOk
 returns-3 c =
-    rw (mask-term _ _ _ (sym (c .before .before .before .term-kind .ensures) ∙ c .before .before .match .keys2))
+    rw (sym (c .before .before .before .term-kind .ensures) ∙ c .before .before .match .keys2)
     (rw (c .before .mode-count .ensures, c .before .before .before .before .term-value .ensures) at (c .mask-ok .ensures))
 
 returns-4 : tie.Need-returns-4
-returns-4 c = rw (transition-term _ _ _ (sym (c .before .before .before .term-kind .ensures) ∙ c .before .before .match .keys3), c .before .wide .ensures, c .before .before .before .before .term-value .ensures, c .transition-count .ensures)
+unfolding termOk
+returns-4 c = rw (sym (c .before .before .before .term-kind .ensures) ∙ c .before .before .match .keys3, c .before .wide .ensures, c .before .before .before .before .term-value .ensures, c .transition-count .ensures)
 
 returns-5 : tie.Need-returns-5
-returns-5 c = rw (or-term _ _ _ (sym (c .before .before .term-kind .ensures) ∙ c .before .match .keys4)) (rw (c .before .before .before .term-value .ensures) at (c .or-ok .ensures))
+unfolding termOk
+returns-5 c = rw (sym (c .before .before .term-kind .ensures) ∙ c .before .match .keys4) (rw (c .before .before .before .term-value .ensures) at (c .or-ok .ensures))
 
 returns-6 : tie.Need-returns-6
 returns-6 c =
@@ -70,9 +76,7 @@ returns-7 c =
     rw (mode-term (g .sheet .now) (g .t) (g .j) (omega arith) (omega arith), c .before .wide2 .ensures, c .before .before .before .before .before .before .term-value .ensures, c .mode-count2 .ensures)
 
 returns-8 : tie.Need-returns-8
-returns-8 c =
-    let g = c .before .before .before .before .before .before .args in
-    sym (other-term (g .sheet .now) (g .t) (g .j) (omega arith))
+returns-8 c = sym (other-term _ _ _ (omega arith))
 
 pub term-ok-spec : {M : Type 1} → statement M
 term-ok-spec =

@@ -1,6 +1,5 @@
 -- `sheet::terms::terms_ok` meets its contract: every transition below t has sound terms.
 -- The measure is what is left of the count. Assumes nothing.
-use native.Mathlib.Omega.{arith}
 use borrow.Author.Needs.{needs}
 use mathlib.Core.Path.{_≡_, sym}
 use mathlib.Core.Bool.{true}
@@ -25,15 +24,11 @@ loop-holds : tie.Need-loop-holds Inv-loop μ-loop
 loop-holds c = (zero-le, every-start _)
 
 record-ok-requires : tie.Need-record-ok-requires Inv-loop μ-loop
-record-ok-requires c κs =
-    let q = c .before .before .before .before .pre in
-    record { head = q .0; pairs = q .1; transition = omega arith }
+record-ok-requires c κs = search needs
 
 returns : tie.Need-returns Inv-loop μ-loop
 unfolding termsOk
-returns c =
-    let l = c .before .before .before .loop in
-    sym (every-fails _ _ (l .t) (omega arith) (failed (c .before .record-ok .ensures) (c .if1 .taken)))
+returns c = sym (every-fails _ _ _ (search needs) (failed (c .before .record-ok .ensures) (c .if1 .taken)))
 
 add-t : tie.Need-add-t Inv-loop μ-loop
 add-t c = search needs
@@ -42,15 +37,11 @@ loop-less : tie.Need-loop-less Inv-loop μ-loop
 loop-less c = search needs
 
 loop-again : tie.Need-loop-again Inv-loop μ-loop
-loop-again c =
-    let l = c .before .before .before .loop in
-    (omega arith, every-next _ (l .t) (l .inv .1) (passed (c .before .record-ok .ensures) (c .if1 .left)))
+loop-again c = (search needs, every-next _ _ (c .before .before .before .loop .inv .1) (passed (c .before .record-ok .ensures) (c .if1 .left)))
 
 returns-2 : tie.Need-returns-2 Inv-loop μ-loop
 unfolding termsOk
-returns-2 c =
-    let l = c .before .loop in
-    sym (every-done _ _ (l .t) (omega arith) (omega arith) (l .inv .1))
+returns-2 c = sym (every-done _ _ _ (search needs) (search needs) (c .before .loop .inv .1))
 
 pub terms-ok-spec : {M : Type 1} → statement M
 terms-ok-spec =

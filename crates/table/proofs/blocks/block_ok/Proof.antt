@@ -10,7 +10,7 @@ use lib.Dec.{eqb}
 use lib.ListN.{length}
 use Rattle.sets.specs.Sets.{minus, size}
 use Rattle.sets.proofs.Tests.{is-false, of-false}
-use Rattle.meaning.specs.Table.{wordIn, bIn, lengthIn, maskIn, timersIn, cellsIn, blockOk}
+use Rattle.meaning.specs.Table.{wordIn, bIn, lengthIn, maskIn, timersIn, cellsIn}
 use Rattle.meaning.proofs.Bounds.{cells-le}
 use Rattle.table.proofs.Places.{head-of, block-room}
 use Rattle.table.proofs.BlockTests.{maskTest, timersTest, block-of, block-is, timers-test, next-in-part}
@@ -75,10 +75,7 @@ block-length-requires : tie.Need-block-length-requires
 block-length-requires c κs = search needs
 
 returns : tie.Need-returns
-returns c =
-    let w = table (c .before) in
-    let b = block (c .before) in
-    sym (is-false (blockOk w b) (λ h. omega (arith, block-of w b h .length-is, c .before .block-length .ensures)))
+returns c = sym (is-false _ (λ h. omega (arith, block-of _ _ h .length-is, c .before .block-length .ensures)))
 
 timers-at-requires : tie.Need-timers-at-requires
 timers-at-requires c κs = omega (arith, room (c .before))
@@ -94,11 +91,8 @@ minus-requires c κs = search needs
 
 returns-2 : tie.Need-returns-2
 returns-2 c =
-    let a = c .before .before .before .before .before in
-    let w = table a in
-    let b = block a in
-    sym (is-false (blockOk w b) (λ h.
-    let r = block-of w b h in
+    sym (is-false _ (λ h.
+    let r = block-of _ _ h in
     ⊎-elim
     (λ v. of-false (sym (mask-is (c .before)) ∙ not-true _ (v .taken)) (r .mask))
     (⊎-elim
@@ -121,9 +115,7 @@ add-if5 c = omega (arith, count-small c)
 returns-3 : tie.Need-returns-3
 returns-3 c =
     let a = placed (c .before) in
-    let w = table a in
-    let b = block a in
-    sym (is-false (blockOk w b) (λ h. c .if5 .taken (omega (arith, block-of w b h .length-is, a .block-length .ensures, count-is (c .before)))))
+    sym (is-false _ (λ h. c .if5 .taken (omega (arith, block-of _ _ h .length-is, a .block-length .ensures, count-is (c .before)))))
 
 add-cells-ok : tie.Need-add-cells-ok
 add-cells-ok c = omega (arith, room (placed (c .before)))
@@ -157,11 +149,10 @@ returns-4 c =
     let w = table a in
     let b = block a in
     let at = a .before .offset .result in
-    let size = a .block-length .result in
     let m = k .before .before .before .before .before .before in
     let last : lengthIn w b ≡ 3 + 6 * cellsIn w b = sym (a .block-length .ensures) ∙ c .before .before .before .if5 .left ∙ ap (λ (i : ℕ). 3 + 6 * i) (count-is k) in
     c .cells-ok .ensures
-    ∙ next-in-part w b at (k .cell-count .result) (at + size - (at + 3)) (a .before .offset .ensures) (count-is k) (omega arith)
+    ∙ next-in-part w b at (k .cell-count .result) (at + a .block-length .result - (at + 3)) (a .before .offset .ensures) (count-is k) (omega arith)
     ∙ sym
     (block-is w b
     (sym (mask-is m) ∙ not-false _ (k .before .before .before .before .before .if2 .left))

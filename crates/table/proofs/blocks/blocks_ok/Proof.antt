@@ -1,13 +1,12 @@
 -- `table::blocks::blocks_ok` meets its contract: every block below b is sound.
 -- The measure is what is left of the count. Assumes nothing.
-use native.Mathlib.Omega.{arith}
 use borrow.Author.Needs.{needs}
 use mathlib.Core.Path.{_≡_, sym}
 use mathlib.Core.Bool.{true}
 use Prim.Native.Nat.{_≤_, _-_, zero-le}
 use Rattle.sets.specs.Sets.{every}
 use Rattle.sets.proofs.Loops.{every-start, every-next, every-fails, every-done, passed, failed}
-use Rattle.meaning.specs.Table.{bIn, blockOk}
+use Rattle.meaning.specs.Table.{blockOk}
 use Rattle.table.proofs.blocks.blocks_ok.Statement.{statement}
 use Rattle.table.proofs.blocks.blocks_ok.Tie as tie
 
@@ -30,10 +29,7 @@ block-ok-requires : tie.Need-block-ok-requires Inv-loop μ-loop
 block-ok-requires c κs = search needs
 
 returns : tie.Need-returns Inv-loop μ-loop
-returns c =
-    let l = c .before .before .before .loop in
-    let w = c .before .before .before .before .before .before .before .args .table .now in
-    sym (every-fails (blockOk w) (bIn w) (l .b) (omega arith) (failed (c .before .block-ok .ensures) (c .if1 .taken)))
+returns c = sym (every-fails _ _ _ (search needs) (failed (c .before .block-ok .ensures) (c .if1 .taken)))
 
 add-b : tie.Need-add-b Inv-loop μ-loop
 add-b c = search needs
@@ -42,15 +38,10 @@ loop-less : tie.Need-loop-less Inv-loop μ-loop
 loop-less c = search needs
 
 loop-again : tie.Need-loop-again Inv-loop μ-loop
-loop-again c =
-    let l = c .before .before .before .loop in
-    (omega arith, every-next _ (l .b) (l .inv .1) (passed (c .before .block-ok .ensures) (c .if1 .left)))
+loop-again c = (search needs, every-next _ _ (c .before .before .before .loop .inv .1) (passed (c .before .block-ok .ensures) (c .if1 .left)))
 
 returns-2 : tie.Need-returns-2 Inv-loop μ-loop
-returns-2 c =
-    let l = c .before .loop in
-    let w = c .before .before .before .before .before .args .table .now in
-    sym (every-done (blockOk w) (bIn w) (l .b) (omega arith) (omega arith) (l .inv .1))
+returns-2 c = sym (every-done _ _ _ (search needs) (search needs) (c .before .loop .inv .1))
 
 pub blocks-ok-spec : {M : Type 1} → statement M
 blocks-ok-spec =

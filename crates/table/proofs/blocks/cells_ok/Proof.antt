@@ -1,10 +1,9 @@
 -- `table::blocks::cells_ok` meets its contract: the flag says whether every cell below c has a next block from 1 to B - 1.
 -- The measure is what is left of the count. Assumes nothing.
-use native.Mathlib.Omega.{arith}
 use borrow.Author.Needs.{needs}
-use mathlib.Core.Path.{_≡_, refl, ap, _∙_}
+use mathlib.Core.Path.{_≡_, refl}
 use native.Mathlib.Nat.{le-antisymm}
-use Prim.Native.Nat.{ℕ, _-_, _≤_, zero-le}
+use Prim.Native.Nat.{_-_, _≤_, zero-le}
 use Rattle.sets.specs.Sets.{every}
 use Rattle.sets.proofs.Loops.{every-and}
 use Rattle.table.specs.Parts.{nextOk}
@@ -39,15 +38,11 @@ loop-less c = search needs
 loop-again : tie.Need-loop-again Inv-loop μ-loop
 unfolding nextOk
 loop-again c =
-    let l = c .before .before .loop in
     let a = c .before .before .before .args in
-    (omega arith, every-and (nextOk (a .cells .now) (a .blocks)) (l .c) (l .ok) _ _ (l .inv .1) refl)
+    (search needs, every-and (nextOk (a .cells .now) (a .blocks)) _ _ _ _ (c .before .before .loop .inv .1) refl)
 
 returns : tie.Need-returns Inv-loop μ-loop
-returns c =
-    let l = c .before .loop in
-    let a = c .before .before .args in
-    l .inv .1 ∙ ap (λ (n : ℕ). every n (nextOk (a .cells .now) (a .blocks))) (le-antisymm (l .inv .0) (c .loop-test .left))
+returns c = rw (le-antisymm (c .before .loop .inv .0) (c .loop-test .left)) at (c .before .loop .inv .1)
 
 pub cells-ok-spec : {M : Type 1} → statement M
 cells-ok-spec =

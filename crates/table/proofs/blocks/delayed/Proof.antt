@@ -1,12 +1,11 @@
 -- `table::blocks::delayed` meets its contract: the transitions with a delay among those passed are found.
 -- The measure is what is left of the count. Assumes nothing.
-use mathlib.Core.Path.{_≡_, refl, _∙_}
+use mathlib.Core.Path.{_≡_, refl}
 use mathlib.Core.Bool.{Bool}
 use mathlib.Core.Logic.{⊎-elim}
 use borrow.Author.Needs.{needs}
 use borrow.Author.Tests.{lt-ltb, le-ltb}
 use Prim.Native.Nat.{ℕ, _-_, _≤_}
-use native.Mathlib.Nat.{le-antisymm}
 use native.Mathlib.Omega.{arith}
 use lib.Dec.{ltb}
 use Rattle.sets.specs.Sets.{setOf}
@@ -54,10 +53,7 @@ loop-again c =
 
 returns : tie.Need-returns Inv-loop μ-loop
 unfolding delayedIn
-returns c =
-    let l = c .before .loop in
-    let w = c .before .before .before .before .args .table .now in
-    setOf-width (λ i. ltb 0 (delayIn w i)) (l .inv .1) (le-antisymm (l .inv .0) (c .loop-test .left) ∙ c .before .before .transition-count .ensures)
+returns c = setOf-width _ (c .before .loop .inv .1) (omega arith)
 
 pub delayed-spec : {M : Type 1} → statement M
 delayed-spec =
