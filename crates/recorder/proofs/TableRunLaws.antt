@@ -19,7 +19,7 @@ use Rattle.meaning.specs.TableRun.{dueNumber, tableStateOk, cellOf, stateAfterC
 use Rattle.meaning.proofs.TableLaws.{dueNumber-lt}
 use Rattle.run.specs.Runs.{endedRun}
 use Rattle.run.proofs.DeadlineLaws.{stateFrom, state-next, deadline-after, state-start, start-within}
-use Rattle.run.proofs.LoopLaws.{input-below, reached-start, reached-turn, Timed, due-now, ends-refused}
+use Rattle.run.proofs.LoopLaws.{input-below, reached-start, reached-turn, ByDeadlines, due-now, ends-refused}
 use Rattle.meaning.proofs.TableLaws.{cell-lt}
 use Rattle.meaning.proofs.LayoutLaws.{next-lt}
 use Rattle.table.proofs.LayoutFacts.{timers-few, timer-lt, delay-pos, delay-lt, cell-inside}
@@ -45,7 +45,7 @@ pub record Known (w : List ℕ) (k : ℕ) (delays from : List ℕ) (timed : ℕ)
 -- ---- input i is reached in block b, by the deadlines ends
 
 pub record ReachedBlock (w inputs out₀ : List ℕ) (q₀ : State) (out ends : List ℕ) (b i : ℕ) : Type 0 where
-  pub timed : Timed (kIn w) (tableStep w) inputs out₀ q₀ out ends b (timersIn w b) 0 i
+  pub timed : ByDeadlines (kIn w) (tableStep w) inputs out₀ q₀ out ends b (timersIn w b) 0 i
   pub sound : T (tableOk w)
   pub low : b < bIn w
   pub fits : timersIn w b < 2 ^ 64

@@ -123,14 +123,14 @@ module _ (k : ℕ) (step : State → ℕ → Step) (inputs out₀ : List ℕ) (q
 
 -- ---- the loop by deadlines: those of the timers that run are ahead, by less than 2^16
 
-pub record Timed (k : ℕ) (step : State → ℕ → Step) (inputs out₀ : List ℕ) (q₀ : State) (out ends : List ℕ) (at timers total i : ℕ) : Type 0 where
+pub record ByDeadlines (k : ℕ) (step : State → ℕ → Step) (inputs out₀ : List ℕ) (q₀ : State) (out ends : List ℕ) (at timers total i : ℕ) : Type 0 where
   pub reached : Reached k step inputs out₀ q₀ out total i (stateFrom at timers ends i)
   pub long : length ends ≡ 64
   pub ahead : (t : ℕ) → T (has timers t) → (i < getD ends t 0) × (getD ends t 0 ≤ i + 65535)
 
 -- with the timers as the code has them
 module _ {k : ℕ} {step : State → ℕ → Step} {inputs out₀ : List ℕ} {q₀ : State} {out ends : List ℕ} {at timers total i : ℕ}
-    (r : Timed k step inputs out₀ q₀ out ends at timers total i) {now : ℕ} (te : now ≡ timers) where
+    (r : ByDeadlines k step inputs out₀ q₀ out ends at timers total i) {now : ℕ} (te : now ≡ timers) where
   -- no deadline of theirs is past
   pub later : (t : ℕ) → has now t ≡ true → i ≤ getD ends t 0
   later t e = le-of-lt (r .ahead t (of-true (rw te at e)) .0)

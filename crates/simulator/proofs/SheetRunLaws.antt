@@ -34,7 +34,7 @@ use Rattle.reaction.specs.Rounds.{Before}
 use Rattle.reaction.proofs.PlanLaws.{has-sourcesIn}
 use Rattle.run.specs.Runs.{endedRun}
 use Rattle.run.proofs.DeadlineLaws.{stateFrom, reading-from, state-next, deadline-after, state-start, start-within}
-use Rattle.run.proofs.LoopLaws.{reached-start, reached-turn, Timed, due-now, ends-refused}
+use Rattle.run.proofs.LoopLaws.{reached-start, reached-turn, ByDeadlines, due-now, ends-refused}
 use Rattle.simulator.proofs.DelayLaws.{delay-at}
 use Rattle.simulator.proofs.SheetStateLaws.{admitted}
 
@@ -55,7 +55,7 @@ right-ahead s sd x ends i r t h =
 -- ---- input i is reached in the mode set x, by the deadlines ends
 
 pub record ReachedModes (s inputs out₀ : List ℕ) (q₀ : State) (out ends : List ℕ) (x live total i : ℕ) : Type 0 where
-  pub timed : Timed (kOf s) (sheetStep s) inputs out₀ q₀ out ends x (running s x) total i
+  pub timed : ByDeadlines (kOf s) (sheetStep s) inputs out₀ q₀ out ends x (running s x) total i
   pub sound : Sound s
   pub sources : live ≡ sourcesIn s x
   pub right : Right s (stateAt s x ends i)
