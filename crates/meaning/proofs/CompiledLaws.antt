@@ -42,9 +42,9 @@ compile-accepts s o m h =
       room = ltb-false m (length (tableWords s (o .listed))) (unmet short 10 (λ z. omega arith) (sym (first-alone (refusedIf short 10)) ∙ b .1));
     }
 
-module _ (s work table : List ℕ) where
+module _ (s table work : List ℕ) where
   -- the table's length is at most that of the lent slice
-  pub compile-length : compile s work table .tableLength ≤ length table
+  pub compile-length : compile s table work .tableLength ≤ length table
   unfolding compile
   compile-length = go (eqb (compileRefusal s o (length table)) 0) refl
     where
@@ -60,13 +60,13 @@ module _ (s work table : List ℕ) where
           let a = compile-accepts s o (length table) (eqb-true (compileRefusal s o (length table)) 0 e) in
           subst (λ (c : Bool). length (tableWords s (cond c (o .listed) [])) ≤ length table) (sym (eq-eqb (sheetRefusal s) 0 (a .passes))) (a .room)
 
-  pub compiled-passes : compile s work table .refusal ≡ 0 → sheetRefusal s ≡ 0
+  pub compiled-passes : compile s table work .refusal ≡ 0 → sheetRefusal s ≡ 0
   unfolding compile
   compiled-passes h = compile-accepts s (walk s (length work)) (length table) h .passes
 
   -- the words that it leaves are the table of the walk
-  compiled-words : compile s work table .refusal ≡ 0
-      → take (compile s work table .tableLength) (compile s work table .table) ≡ tableWords s (walk s (length work) .listed)
+  compiled-words : compile s table work .refusal ≡ 0
+      → take (compile s table work .tableLength) (compile s table work .table) ≡ tableWords s (walk s (length work) .listed)
   unfolding compile overwritten
   compiled-words h =
       let o = walk s (length work) in
@@ -78,8 +78,8 @@ module _ (s work table : List ℕ) where
 pub compiled-faithful-from : ((s : List ℕ) → Sound s → (y d i : ℕ) → (y ≡ 0) ⊎ T (consistent s y) → T (consistent s (tick s y d i .sets .modes)))
     → CompiledFaithful
 unfolding CompiledFaithful
-compiled-faithful-from keeps s work table h =
-    subst (λ (w : List ℕ). T (tableOk w) × T (faithful s w)) (sym (compiled-words s work table h)) (go (compile-accepts s o (length table) (unfold compile in h)))
+compiled-faithful-from keeps s table work h =
+    subst (λ (w : List ℕ). T (tableOk w) × T (faithful s w)) (sym (compiled-words s table work h)) (go (compile-accepts s o (length table) (unfold compile in h)))
   where
     o : Walk
     o = walk s (length work)

@@ -20,6 +20,7 @@ pub mod LayoutLaws
 pub mod FaithfulLaws
 pub mod Simulation
 pub mod ServedLaws
+pub mod WholeListLaws
 pub mod TableFaithful
 pub mod TableSound
 pub mod CompiledLaws

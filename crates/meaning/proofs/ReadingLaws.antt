@@ -14,7 +14,7 @@ use Rattle.sets.proofs.Tests.{is-true, is-false, and-l, and-r, and-i, cond-ext}
 use Rattle.sets.proofs.Membership.{has-none}
 use Rattle.sets.proofs.Those.{has-those}
 use Rattle.meaning.specs.Sheet.{tOf, recordLength, source, termCount, termKind, termValue}
-use Rattle.meaning.specs.Check.{pairOk, termOk}
+use Rattle.meaning.specs.Check.{pairOk, kindOk, termOk}
 use Rattle.meaning.specs.Reaction.{TickSets, isDelay, delay, isTimer, running}
 use Rattle.meaning.specs.Tick.{tick}
 use Rattle.meaning.specs.Run.{State, reading, powerOn, dueTimers, nextReadings, nextState}
@@ -60,7 +60,7 @@ module _ (s : List ℕ) (sd : Sound s) where
   has-term t l = let h = leb→le 4 (recordLength s t) (allOf-e _ (sd .pairs t l) .1 .1 .0) in omega arith
 
   first-term : (t : ℕ) → T (termOk s t 0) → termKind s t 0 ≡ 0 → termValue s t 0 ≤ 65535
-  unfolding termOk
+  unfolding termOk kindOk
   first-term t h z = leb→le (termValue s t 0) 65535 (and-r (eqb (termCount s t) 1) (leb (termValue s t 0) 65535) (rw z at h))
 
   pub delay-small : (t : ℕ) → t < tOf s → T (isTimer s t) → delay s t < 65536

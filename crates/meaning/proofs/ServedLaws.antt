@@ -23,8 +23,8 @@ use Rattle.meaning.specs.Run.{State, reading, powerOn, isFresh, readings
 use Rattle.meaning.specs.SheetRun.{sheetStep, sheetTicks}
 use Rattle.meaning.specs.Table.{kIn, bIn, delayIn, maskIn, timersIn, tableOk}
 use Rattle.meaning.specs.TableRun.{tableStep, tableStateOk, tableTicks, tableRun}
-use Rattle.meaning.specs.WholeList.{Call, legal, doneSets, refusalOf, runsFrom, doneWords, allDone, runOf, stateBefore, sheetBy, RunRight, Served}
-use Rattle.meaning.specs.Faithful.{faithful, FaithfulServes}
+use Rattle.meaning.specs.WholeList.{Call, legal, doneSets, refusalOf, runsFrom, doneWords, allDone}
+use Rattle.meaning.specs.Faithful.{faithful}
 use Rattle.meaning.proofs.SheetLaws.{Sound, sound}
 use Rattle.meaning.proofs.TickLaws.{running-e, running-none}
 use Rattle.meaning.proofs.ReadingLaws.{Right, right-fresh, Zeros, zeros-fresh, zeros-next}
@@ -33,6 +33,36 @@ use Rattle.meaning.proofs.SheetTicksLaws.{five-long, Steady, steady-aft
 use Rattle.meaning.proofs.LayoutLaws.{b-pos, mask-first}
 use Rattle.meaning.proofs.FaithfulLaws.{delay-same}
 use Rattle.meaning.proofs.Simulation.{Stands, timers-stand, ticks-agree}
+
+-- ---- runs and the sheet's ticks from any two states, and what is served from them
+
+-- s: the sheet; w: the table; q and p: the states that the runs and the sheet begin with; cs: the calls
+module _ (s w : List ℕ) (q p : State) (cs : List Call) where
+  -- what run j returns, and the state that it gets
+  unfoldable pub runFrom : ℕ → Run
+  runFrom j = getD (runsFrom w q cs) j (ran [] (stops 0 powerOn))
+
+  unfoldable pub stateFrom : ℕ → State
+  stateFrom zero = q
+  stateFrom (suc j) = runFrom j .state
+
+  -- the sheet's state after the done ticks of runs 0 to j
+  unfoldable pub sheetBy : ℕ → State
+  sheetBy j = sheetTicks s (flatten (map (doneSets (kOf s)) (take (suc j) cs))) p .state
+
+  pub record RunRightFrom (j : ℕ) (c : Call) : Type 0 where
+    pub refusal : runFrom j .refusal ≡ refusalOf (kOf s) c
+    pub done : runFrom j .done ≡ length (doneSets (kOf s) c)
+    pub none : runFrom j .done ≡ 0 → runFrom j .state ≡ stateFrom j
+    pub readings : 0 < runFrom j .done → runFrom j .state .readings ≡ sheetBy j .readings
+    pub block : 0 < runFrom j .done → runFrom j .state .at < bIn w
+    pub mask : 0 < runFrom j .done → maskIn w (runFrom j .state .at) ≡ sheetBy j .at
+
+  pub record ServedFrom : Type 0 where
+    pub unrefused : sheetTicks s (allDone s w cs) p .refusal ≡ 0
+    pub words : flatten (map doneWords (runsFrom w q cs)) ≡ sheetTicks s (allDone s w cs) p .words
+    pub consistently : (i : ℕ) → i < length (allDone s w cs) → T (consistent s (sheetTicks s (take (suc i) (allDone s w cs)) p .state .at))
+    pub runs : (j : ℕ) → j < length cs → RunRightFrom j (getD cs j (record { inputs = []; out = [] }))
 
 module _ (s : List ℕ) (sd : Sound s) (w : List ℕ) (ok : T (tableOk w)) (f : T (faithful s w)) where
   -- ---- a state that stands for one of the sheet's is not refused
@@ -162,8 +192,8 @@ module _ (s : List ℕ) (sd : Sound s) (w : List ℕ) (ok : T (tableOk w)) (f : 
     split unrefused more = ticks-split (kOf s) (sheetStep s) ds more p unrefused
 
     -- the runs after the first, as runs of the whole list
-    later : S .refusal ≡ 0 → (j : ℕ) (e : Call) → RunRight s w (R .state) (S .state) cs j e → RunRight s w q p (c ∷ cs) (suc j) e
-    unfolding runOf runsFrom sheetBy flatten ticksThen
+    later : S .refusal ≡ 0 → (j : ℕ) (e : Call) → RunRightFrom s w (R .state) (S .state) cs j e → RunRightFrom s w q p (c ∷ cs) (suc j) e
+    unfolding runFrom runsFrom sheetBy flatten ticksThen
     later unrefused j e r =
         record {
           refusal = r .refusal;
@@ -174,16 +204,16 @@ module _ (s : List ℕ) (sd : Sound s) (w : List ℕ) (ok : T (tableOk w)) (f : 
           mask = λ l. r .mask l ∙ ap (λ (x : Ticks). x .state .at) (sym two);
         }
       where
-        before : (k : ℕ) → stateBefore s w (R .state) (S .state) cs k ≡ stateBefore s w q p (c ∷ cs) (suc k)
-        before zero = unfold stateBefore runOf runsFrom in refl
-        before (suc k) = unfold stateBefore runOf runsFrom in refl
+        before : (k : ℕ) → stateFrom s w (R .state) (S .state) cs k ≡ stateFrom s w q p (c ∷ cs) (suc k)
+        before zero = unfold stateFrom runFrom runsFrom in refl
+        before (suc k) = unfold stateFrom runFrom runsFrom in refl
 
         two : sheetTicks s (ds ++ D (take (suc j) cs)) p ≡ ticksThen S (sheetTicks s (D (take (suc j) cs)) (S .state))
         two = split unrefused (D (take (suc j) cs))
 
     -- the first run
-    first-run : CallRight q c ds R S → RunRight s w q p (c ∷ cs) 0 c
-    unfolding runOf runsFrom sheetBy flatten stateBefore
+    first-run : CallRight q c ds R S → RunRightFrom s w q p (c ∷ cs) 0 c
+    unfolding runFrom runsFrom sheetBy flatten stateFrom
     first-run h =
         let one = sym (append-nil ds) in
         record {
@@ -197,7 +227,7 @@ module _ (s : List ℕ) (sd : Sound s) (w : List ℕ) (ok : T (tableOk w)) (f : 
 
   module _ (keeps : (y d i : ℕ) → (y ≡ 0) ⊎ T (consistent s y) → T (consistent s (tick s y d i .sets .modes))) where
     -- from states that stand for each other, every list of calls is served
-    served : (cs : List Call) (q p : State) → Stands s sd w ok f q p → Right s p → Zeros s p → Steady s p → Served s w q p cs
+    served : (cs : List Call) (q p : State) → Stands s sd w ok f q p → Right s p → Zeros s p → Steady s p → ServedFrom s w q p cs
     unfolding allDone flatten runsFrom
     served [] q p st r zs sy =
         unfold ticks stops in
@@ -206,8 +236,8 @@ module _ (s : List ℕ) (sd : Sound s) (w : List ℕ) (ok : T (tableOk w)) (f : 
       where
         go : CallRight q c (ds q p c cs) (R q p c cs) (S q p c cs)
             → (Stands s sd w ok f (R q p c cs .state) (S q p c cs .state) → Right s (S q p c cs .state) → Zeros s (S q p c cs .state)
-            → Steady s (S q p c cs .state) → Served s w (R q p c cs .state) (S q p c cs .state) cs)
-            → Served s w q p (c ∷ cs)
+            → Steady s (S q p c cs .state) → ServedFrom s w (R q p c cs .state) (S q p c cs .state) cs)
+            → ServedFrom s w q p (c ∷ cs)
         go h ih =
             unfold ticksThen in
             record {
@@ -217,7 +247,7 @@ module _ (s : List ℕ) (sd : Sound s) (w : List ℕ) (ok : T (tableOk w)) (f : 
               runs = at;
             }
           where
-            rest : Served s w (R q p c cs .state) (S q p c cs .state) cs
+            rest : ServedFrom s w (R q p c cs .state) (S q p c cs .state) cs
             rest =
                 ih (h .stands) (h .right)
                 (ticks-keep (kOf s) (sheetStep s) (Zeros s) (λ x i _ _. unfold sheetStep in (zeros-next s x _)) (ds q p c cs) p zs)
@@ -229,17 +259,15 @@ module _ (s : List ℕ) (sd : Sound s) (w : List ℕ) (ok : T (tableOk w)) (f : 
             whole : sheetTicks s (ds q p c cs ++ D cs) p .refusal ≡ 0
             whole = ap (λ (x : Ticks). x .refusal) two ∙ (unfold ticksThen in (rest .unrefused))
 
-            at : (j : ℕ) → j < suc (length cs) → RunRight s w q p (c ∷ cs) j (getD (c ∷ cs) j (record { inputs = []; out = [] }))
+            at : (j : ℕ) → j < suc (length cs) → RunRightFrom s w q p (c ∷ cs) j (getD (c ∷ cs) j (record { inputs = []; out = [] }))
             at zero l = first-run q p c cs h
             at (suc j) l = later q p c cs (h .unrefused) j (getD cs j (record { inputs = []; out = [] })) (rest .runs j (le-of-suc-le-suc l))
 
 -- from power-on, by the one fact that a tick leaves a consistent set
-pub faithful-serves-from : ((s : List ℕ) → Sound s → (y d i : ℕ) → (y ≡ 0) ⊎ T (consistent s y) → T (consistent s (tick s y d i .sets .modes)))
-    → FaithfulServes
-unfolding FaithfulServes
-faithful-serves-from keeps s w passes ok f cs =
-    let sd = sound s passes in
-    served s sd w ok f (keeps s sd) cs powerOn powerOn (stands sd) (right-fresh s powerOn (unfold powerOn in refl)) (zeros-fresh s) (unfold powerOn in (inl refl))
+pub served-from-power-on : (s : List ℕ) → Sound s → ((y d i : ℕ) → (y ≡ 0) ⊎ T (consistent s y) → T (consistent s (tick s y d i .sets .modes)))
+    → (w : List ℕ) → T (tableOk w) → T (faithful s w) → (cs : List Call) → ServedFrom s w powerOn powerOn cs
+served-from-power-on s sd keeps w ok f cs =
+    served s sd w ok f keeps cs powerOn powerOn stands (right-fresh s powerOn (unfold powerOn in refl)) (zeros-fresh s) (unfold powerOn in (inl refl))
   where
-    stands : (sd : Sound s) → Stands s sd w ok f powerOn powerOn
-    stands sd = unfold powerOn in (record { low = b-pos w ok; same = mask-first w ok; readings = refl })
+    stands : Stands s sd w ok f powerOn powerOn
+    stands = unfold powerOn in (record { low = b-pos w ok; same = mask-first w ok; readings = refl })

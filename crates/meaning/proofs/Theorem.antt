@@ -9,12 +9,17 @@ use Rattle.meaning.proofs.Fuel.{containment-enough, meeting-enough, com
 use Rattle.meaning.proofs.WalkFuel.{walk-enough}
 use Rattle.meaning.proofs.TickInWordsLaws.{in-words}
 use Rattle.meaning.proofs.AnyOrder.{any-order}
-use Rattle.meaning.proofs.ServedLaws.{faithful-serves-from}
+use Rattle.meaning.proofs.ServedLaws.{served-from-power-on}
+use Rattle.meaning.proofs.WholeListLaws.{served-each}
+use Rattle.meaning.proofs.SheetLaws.{sound}
 use Rattle.meaning.proofs.CompiledLaws.{compiled-faithful-from, compiled-passes}
 
 -- a faithful table serves any list of calls from power-on as its sheet does
 pub faithful-serves : FaithfulServes
-faithful-serves = faithful-serves-from keeps-consistent
+unfolding FaithfulServes
+faithful-serves s w passes ok f cs =
+    let sd = sound s passes in
+    served-each s w cs (served-from-power-on s sd (keeps-consistent s sd) w ok f cs)
 
 -- a table that compile made is faithful to its sheet
 pub compiled-faithful : CompiledFaithful
@@ -26,9 +31,9 @@ compiled-faithful = compiled-faithful-from keeps-consistent
 -- returned, and runs them from the fresh state on, passing the state that each call returns to the next.
 pub whole-list : WholeList
 unfolding WholeList FaithfulServes CompiledFaithful
-whole-list s work table h cs =
-    let f = compiled-faithful s work table h in
-    faithful-serves s _ (compiled-passes s work table h) (f .0) (f .1) cs
+whole-list s table work h cs =
+    let f = compiled-faithful s table work h in
+    faithful-serves s _ (compiled-passes s table work h) (f .0) (f .1) cs
 
 pub promised : Promised
 promised =

@@ -3,7 +3,7 @@ use mathlib.Core.Bool.{Bool, false, not, _&&_, _||_, cond}
 use mathlib.Core.List.{List, [], _∷_}
 use Prim.Native.Nat.{ℕ, suc, _+_, _*_, _%_, _^_}
 use lib.Dec.{eqb, leb, ltb}
-use lib.ListN.{length, getD}
+use lib.ListN.{length}
 use Rattle.sets.specs.Sets.{some, every}
 use Rattle.meaning.specs.Lists.{allOf, firstOf}
 use Rattle.meaning.specs.Sheet.{nOf, kOf, tOf, kind, parent, first, isChild, offset, recordLength, endBefore, source, target, termCount, termKind, termValue, contains, meeting}
@@ -62,21 +62,27 @@ module _ (s : List ℕ) where
   unfoldable pub endsOk : Bool
   endsOk = every (tOf s) endOk
 
-  -- 5: "term": the condition of term j of transition t, by its kind 0 to 7
-  unfoldable pub termOk : ℕ → ℕ → Bool
-  termOk t j =
-      let c = termKind s t j in
+  -- 5: "term": what is asked of term j of transition t if its kind is c
+  unfoldable pub kindOk : ℕ → ℕ → ℕ → Bool
+  kindOk t j c =
       let v = termValue s t j in
-      getD
-      ((eqb (termCount s t) 1 && leb v 65535)
-      ∷ ltb v (kOf s)
-      ∷ ltb v (kOf s)
-      ∷ (ltb 0 v && ltb v (2 ^ nOf s))
-      ∷ ltb v (nOf s)
-      ∷ ltb v (nOf s)
-      ∷ ltb v (tOf s)
-      ∷ (eqb v 0 && ltb 0 j && ltb (suc j) (termCount s t) && not (eqb (termKind s t (suc j)) 7))
-      ∷ []) c false
+      -- 0: "delay in ticks, 0 to 65,535; the only pair of its record"
+      cond (eqb c 0) (eqb (termCount s t) 1 && leb v 65535)
+      -- 1, 2: "input event present, absent"; "Events are below k"
+      (cond (eqb c 1 || eqb c 2) (ltb v (kOf s))
+      -- 3: "a mode mask, not 0, no bit at n or above"
+      (cond (eqb c 3) (ltb 0 v && ltb v (2 ^ nOf s))
+      -- 4, 5: "mode entered, mode exited"; "modes below n"
+      (cond (eqb c 4 || eqb c 5) (ltb v (nOf s))
+      -- 6: "transition (by number) taken"; "transitions below T"
+      (cond (eqb c 6) (ltb v (tOf s))
+      -- 7: ""or", value 0; never first, last or next to another"
+      (cond (eqb c 7) (eqb v 0 && ltb 0 j && ltb (suc j) (termCount s t) && not (eqb (termKind s t (suc j)) 7))
+      -- there is no other kind
+      false)))))
+
+  unfoldable pub termOk : ℕ → ℕ → Bool
+  termOk t j = kindOk t j (termKind s t j)
 
   unfoldable pub termsOk : Bool
   termsOk = every (tOf s) (λ t. every (termCount s t) (termOk t))

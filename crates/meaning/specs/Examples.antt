@@ -7,9 +7,9 @@ use lib.ListN.{replicate}
 use Rattle.sets.specs.Sets.{digit, has, minus, setOf, those, members, size, some, every, someIn, everyIn}
 use Rattle.meaning.specs.Lists.{rowFrom, isIn, place, overwritten, allOf, firstOf, refusedIf, firstRefusal}
 use Rattle.meaning.specs.Sheet.{word, nOf, kOf, tOf, kind, parent, first, offset, recordLength, endBefore, source, target, termCount, termKind, termValue, isChild, containsIn, contains, strictlyContains, meetingFrom, meetingOf, meeting}
-use Rattle.meaning.specs.Check.{headOk, modeOk, modesOk, pairOk, pairsOk, endOk, endsOk, termOk, termsOk, sharesEnds, distinctOk, sheetRefusal}
+use Rattle.meaning.specs.Check.{headOk, modeOk, modesOk, pairOk, pairsOk, endOk, endsOk, kindOk, termOk, termsOk, sharesEnds, distinctOk, sheetRefusal}
 use Rattle.meaning.specs.Hierarchy.{children, memberOk, consistent, brings, completedIn, complete, childIn, childHolding, exits, enters}
-use Rattle.meaning.specs.Reaction.{isDelay, delay, isTimer, running, holds, alternativeFrom, alternative, isDue, trigger, triggered, conflict, givesWay, eligible, ambiguous, restless, exiting, entering, afterRound}
+use Rattle.meaning.specs.Reaction.{isDelay, delay, isTimer, running, holds, inFirst, alternativesFrom, alternatives, allHold, alternative, isDue, trigger, triggered, conflict, givesWay, eligible, ambiguous, restless, exiting, entering, afterRound}
 use Rattle.meaning.specs.Tick.{fiveWords, begin, chosen, roundsFrom, tick}
 use Rattle.meaning.specs.Run.{reading, powerOn, isFresh, readingsOk, dueTimers, nextReadings, nextState, stops, tickThen, outputShort, inputForeign, ran, tickRefusal, ticks, run}
 use Rattle.meaning.specs.SheetRun.{stateOk, tickFrom, stateAfter, sheetStep, sheetRun}
@@ -20,7 +20,7 @@ use Rattle.meaning.specs.Faithful.{cellFaithful, blockFaithful, faithful
 
 -- whoever unfolds this unfolds every definition of the meaning
 opened : Unit {0}
-unfolding digit has minus setOf those members size some every someIn everyIn flatten rowFrom isIn place overwritten allOf firstOf refusedIf firstRefusal word nOf kOf tOf kind parent first offset recordLength endBefore source target termCount termKind termValue isChild containsIn contains strictlyContains meetingFrom meetingOf meeting headOk modeOk modesOk pairOk pairsOk endOk endsOk termOk termsOk sharesEnds distinctOk sheetRefusal children memberOk consistent brings completedIn complete childIn childHolding exits enters isDelay delay isTimer running holds alternativeFrom alternative isDue trigger triggered conflict givesWay eligible ambiguous restless exiting entering afterRound fiveWords begin chosen roundsFrom tick reading powerOn isFresh readingsOk dueTimers nextReadings nextState stops tickThen outputShort inputForeign ran tickRefusal ticks run stateOk tickFrom stateAfter sheetStep sheetRun wordIn kIn tIn bIn sourceIn delayIn offsetIn lengthIn endBeforeIn maskIn timersIn cellsIn cellWord timerOk blockOk tableOk dueNumber tableStateOk cellOf stateAfterCell isStale tableStep tableRun dueSet pairsFrom workListFull timersMany cellCount cellTick listing cellsFrom walkFrom walk timerWord cellWords blockWords tableWords compileRefusal compile cellFaithful blockFaithful faithful
+unfolding digit has minus setOf those members size some every someIn everyIn flatten rowFrom isIn place overwritten allOf firstOf refusedIf firstRefusal word nOf kOf tOf kind parent first offset recordLength endBefore source target termCount termKind termValue isChild containsIn contains strictlyContains meetingFrom meetingOf meeting headOk modeOk modesOk pairOk pairsOk endOk endsOk kindOk termOk termsOk sharesEnds distinctOk sheetRefusal children memberOk consistent brings completedIn complete childIn childHolding exits enters isDelay delay isTimer running holds inFirst alternativesFrom alternatives allHold alternative isDue trigger triggered conflict givesWay eligible ambiguous restless exiting entering afterRound fiveWords begin chosen roundsFrom tick reading powerOn isFresh readingsOk dueTimers nextReadings nextState stops tickThen outputShort inputForeign ran tickRefusal ticks run stateOk tickFrom stateAfter sheetStep sheetRun wordIn kIn tIn bIn sourceIn delayIn offsetIn lengthIn endBeforeIn maskIn timersIn cellsIn cellWord timerOk blockOk tableOk dueNumber tableStateOk cellOf stateAfterCell isStale tableStep tableRun dueSet pairsFrom workListFull timersMany cellCount cellTick listing cellsFrom walkFrom walk timerWord cellWords blockWords tableWords compileRefusal compile cellFaithful blockFaithful faithful
 opened = tt
 
 -- the whole example's sheet and table
@@ -56,7 +56,7 @@ lent n = replicate n 7
 
 -- the refusal of compile with enough memory
 abbrev refusal : List ℕ → ℕ
-refusal s = compile s (lent 10) (lent 1000) .refusal
+refusal s = compile s (lent 1000) (lent 10) .refusal
 
 -- 1→2 and 2→1 both on event 0
 abbrev to-and-fro : List ℕ
@@ -110,10 +110,10 @@ seven =
 pub record Examples : Type 0 where
   -- "this table"; "69 words accepted, 68 refused 10; work list 2 accepted, 1 refused 11"; words past the table's and the listed
   -- sets' stay
-  pub the-table : compile sheet (lent 2) (lent 69) ≡ record { refusal = 0; f = 2; tableLength = 69; work = 3 ∷ 5 ∷ []; table = table }
-  pub longer : compile sheet (lent 3) (lent 70) ≡ record { refusal = 0; f = 2; tableLength = 69; work = 3 ∷ 5 ∷ 7 ∷ []; table = table ++ lent 1 }
-  pub short-table : compile sheet (lent 2) (lent 68) ≡ record { refusal = 10; f = 2; tableLength = 0; work = 3 ∷ 5 ∷ []; table = lent 68 }
-  pub short-work : compile sheet (lent 1) (lent 69) ≡ record { refusal = 11; f = 1; tableLength = 0; work = 3 ∷ []; table = lent 69 }
+  pub the-table : compile sheet (lent 69) (lent 2) ≡ record { refusal = 0; f = 2; tableLength = 69; work = 3 ∷ 5 ∷ []; table = table }
+  pub longer : compile sheet (lent 70) (lent 3) ≡ record { refusal = 0; f = 2; tableLength = 69; work = 3 ∷ 5 ∷ 7 ∷ []; table = table ++ lent 1 }
+  pub short-table : compile sheet (lent 68) (lent 2) ≡ record { refusal = 10; f = 2; tableLength = 0; work = 3 ∷ 5 ∷ []; table = lent 68 }
+  pub short-work : compile sheet (lent 69) (lent 1) ≡ record { refusal = 11; f = 1; tableLength = 0; work = 3 ∷ []; table = lent 69 }
   -- "these five ticks", by sheet run and by table run, in output words with two to spare
   pub sheet-run : sheetRun sheet powerOn inputs (lent 27)
       ≡ record { done = 5; state = record { at = 5; readings = 0 ∷ 2 ∷ replicate 62 0 }; refusal = 0; rounds = 3; out = five-ticks ++ lent 2 }

@@ -1,11 +1,11 @@
 -- Delays and terms, and one round: what is triggered, gives way, is eligible; what the round leaves. A round knows the set
 -- of due timers and not the readings, as a cell of a table does. Assumes nothing.
-use mathlib.Core.Bool.{Bool, true, false, not, _&&_, _||_, cond}
-use mathlib.Core.List.{List, [], _∷_}
+use mathlib.Core.Bool.{Bool, false, not, _&&_, _||_, cond}
+use mathlib.Core.List.{List, [], _∷_, map}
 use Prim.Native.Nat.{ℕ, zero, suc}
 use lib.Dec.{eqb, ltb}
-use lib.ListN.{getD}
 use Rattle.sets.specs.Sets.{has, union, minus, setOf, those, someIn}
+use Rattle.meaning.specs.Lists.{allOf, firstOf}
 use Rattle.meaning.specs.Sheet.{nOf, tOf, source, termCount, termKind, termValue, contains, strictlyContains, meeting}
 use Rattle.meaning.specs.Hierarchy.{exits, enters}
 
@@ -16,6 +16,11 @@ pub record TickSets : Type 0 where
   pub exited : ℕ
   pub active : ℕ
   pub taken : ℕ
+
+-- j in front of the first of some lists
+unfoldable pub inFirst : ℕ → List (List ℕ) → List (List ℕ)
+inFirst j [] = []
+inFirst j (js ∷ rest) = (j ∷ js) ∷ rest
 
 module _ (s : List ℕ) where
   -- a delay transition: its one term is of kind 0
@@ -36,27 +41,35 @@ module _ (s : List ℕ) where
   -- a term of kind c and value v holds on the tick's input i and the sets z
   unfoldable pub holds : ℕ → TickSets → ℕ → ℕ → Bool
   holds i z c v =
-      getD
-      (false
-      ∷ has i v
-      ∷ not (has i v)
-      ∷ someIn (nOf s) v (has (z .active))
-      ∷ has (z .entered) v
-      ∷ has (z .exited) v
-      ∷ has (z .taken) v
-      ∷ []) c false
+      -- 1, 2: "input event present, absent"
+      cond (eqb c 1) (has i v)
+      (cond (eqb c 2) (not (has i v))
+      -- 3: "a mode mask ..: some mode of it is active"
+      (cond (eqb c 3) (someIn (nOf s) v (has (z .active)))
+      -- 4, 5: "mode entered, mode exited"
+      (cond (eqb c 4) (has (z .entered) v)
+      (cond (eqb c 5) (has (z .exited) v)
+      -- 6: "transition (by number) taken"
+      (cond (eqb c 6) (has (z .taken) v)
+      false)))))
 
-  -- "Terms between "or"s all hold; one such alternative suffices": the lowest alternative that holds, 0 if none. w terms are
-  -- left, from term j of alternative a on; ok: the terms of a before j hold
-  unfoldable pub alternativeFrom : ℕ → TickSets → ℕ → ℕ → ℕ → ℕ → Bool → ℕ
-  alternativeFrom i z t zero j a ok = cond ok a 0
-  alternativeFrom i z t (suc w) j a ok =
-      let next = alternativeFrom i z t w (suc j) (suc a) true in
-      let same = alternativeFrom i z t w (suc j) a (ok && holds i z (termKind s t j) (termValue s t j)) in
-      cond (eqb (termKind s t j) 7) (cond ok a next) same
+  -- "Terms between "or"s": the alternatives of t, each a list of places of terms, from term j on, where w terms are left
+  unfoldable pub alternativesFrom : ℕ → ℕ → ℕ → List (List ℕ)
+  alternativesFrom t zero j = [] ∷ []
+  alternativesFrom t (suc w) j =
+      let rest = alternativesFrom t w (suc j) in
+      cond (eqb (termKind s t j) 7) ([] ∷ rest) (inFirst j rest)
 
+  unfoldable pub alternatives : ℕ → List (List ℕ)
+  alternatives t = alternativesFrom t (termCount s t) 0
+
+  -- "all hold"
+  unfoldable pub allHold : ℕ → TickSets → ℕ → List ℕ → Bool
+  allHold i z t js = allOf (map (λ j. holds i z (termKind s t j) (termValue s t j)) js)
+
+  -- "one such alternative suffices": the number of the first that holds, counted from 1; 0 if none does
   unfoldable pub alternative : ℕ → TickSets → ℕ → ℕ
-  alternative i z t = alternativeFrom i z t (termCount s t) 0 1 true
+  alternative i z t = firstOf 1 (map (allHold i z t) (alternatives t))
 
   -- a timer of the due set d "is triggered at reading 0"; once its source is entered it has its delay again
   unfoldable pub isDue : ℕ → TickSets → ℕ → Bool

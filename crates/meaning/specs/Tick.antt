@@ -43,7 +43,7 @@ module _ (s : List ℕ) where
       (cond (ambiguous s es) (record { refusal = 8; sets = z; rounds = r })
       (cond (restless s z es) (record { refusal = 9; sets = z; rounds = r }) on))
 
-  -- the tick from the mode set x with the due timers d on the input i. Each round takes a transition not taken before, so
-  -- T + 1 rounds are enough
+  -- the tick from the mode set x with the due timers d on the input i. Each round takes a transition not taken before: at most T
+  -- rounds and one last look
   unfoldable pub tick : ℕ → ℕ → ℕ → Tick
   tick x d i = roundsFrom (suc (tOf s)) d i (begin x) 0

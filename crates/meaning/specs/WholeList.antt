@@ -4,11 +4,12 @@ use mathlib.Core.Bool.{cond}
 use mathlib.Core.List.{List, [], _∷_, map, flatten}
 use Prim.Native.Nat.{ℕ, zero, suc, _*_, _<_}
 use lib.Dec.{T, ltb}
-use lib.ListN.{length, getD, take}
+use lib.ListN.{length, getD, take, drop}
 use Rattle.meaning.specs.Sheet.{kOf}
 use Rattle.meaning.specs.Hierarchy.{consistent}
+use Rattle.meaning.specs.Tick.{Tick, fiveWords}
 use Rattle.meaning.specs.Run.{State, powerOn, outputShort, inputForeign, stops, Run, ran}
-use Rattle.meaning.specs.SheetRun.{sheetTicks}
+use Rattle.meaning.specs.SheetRun.{tickFrom, stateAfter}
 use Rattle.meaning.specs.Table.{bIn, maskIn}
 use Rattle.meaning.specs.TableRun.{tableRun}
 use Rattle.meaning.specs.Compile.{compile}
@@ -44,23 +45,42 @@ runsFrom t q (c ∷ cs) = let r = tableRun t q (c .inputs) (c .out) in r ∷ run
 unfoldable pub doneWords : Run → List ℕ
 doneWords r = take (5 * r .done) (r .out)
 
--- s: the sheet; t: the table; q and p: the states that the runs and the sheet begin with; cs: the calls
-module _ (s t : List ℕ) (q p : State) (cs : List Call) where
-  -- "The done sets are the input sets of all done ticks, run after run"
+-- s: the sheet; t: the table; cs: the calls, the first from the fresh state
+module _ (s t : List ℕ) (cs : List Call) where
+  -- "The done sets are the input sets of all done ticks, run after run"; the i-th of them, counted from 0
   unfoldable pub allDone : List ℕ
   allDone = flatten (map (doneSets (kOf s)) cs)
 
-  -- what run j returns, and the state that it gets
+  unfoldable pub doneSet : ℕ → ℕ
+  doneSet i = getD allDone i 0
+
+  -- "The sheet's meaning is the tick defined above, fed the done sets in order from the fresh state": its state before the i-th tick,
+  -- and that tick
+  unfoldable pub sheetState : ℕ → State
+  sheetState zero = powerOn
+  sheetState (suc i) = stateAfter s (sheetState i) (tickFrom s (sheetState i) (doneSet i) .sets)
+
+  unfoldable pub sheetTick : ℕ → Tick
+  sheetTick i = tickFrom s (sheetState i) (doneSet i)
+
+  -- what the runs return; run j, and the state that it gets
+  unfoldable pub runs : List Run
+  runs = runsFrom t powerOn cs
+
   unfoldable pub runOf : ℕ → Run
-  runOf j = getD (runsFrom t q cs) j (ran [] (stops 0 powerOn))
+  runOf j = getD runs j (ran [] (stops 0 powerOn))
 
   unfoldable pub stateBefore : ℕ → State
-  stateBefore zero = q
+  stateBefore zero = powerOn
   stateBefore (suc j) = runOf j .state
 
-  -- the sheet's state after the done ticks of runs 0 to j
-  unfoldable pub sheetBy : ℕ → State
-  sheetBy j = sheetTicks s (flatten (map (doneSets (kOf s)) (take (suc j) cs))) p .state
+  -- the five words of the i-th done tick, as its run left them
+  unfoldable pub tickWords : ℕ → List ℕ
+  tickWords i = take 5 (drop (5 * i) (flatten (map doneWords runs)))
+
+  -- how many ticks are done when run j ends
+  unfoldable pub doneBy : ℕ → ℕ
+  doneBy j = length (flatten (map (doneSets (kOf s)) (take (suc j) cs)))
 
   -- what run j, on the call c, returns
   pub record RunRight (j : ℕ) (c : Call) : Type 0 where
@@ -69,22 +89,22 @@ module _ (s t : List ℕ) (q p : State) (cs : List Call) where
     -- "a run with no done tick returns the state it got"
     pub none : runOf j .done ≡ 0 → runOf j .state ≡ stateBefore j
     -- "a run whose last done tick it is returns the sheet's readings and the number of a block with that set as its mask"
-    pub readings : 0 < runOf j .done → runOf j .state .readings ≡ sheetBy j .readings
+    pub readings : 0 < runOf j .done → runOf j .state .readings ≡ sheetState (doneBy j) .readings
     pub block : 0 < runOf j .done → runOf j .state .at < bIn t
-    pub mask : 0 < runOf j .done → maskIn t (runOf j .state .at) ≡ sheetBy j .at
+    pub mask : 0 < runOf j .done → maskIn t (runOf j .state .at) ≡ sheetState (doneBy j) .at
 
   pub record Served : Type 0 where
-    -- "The sheet's meaning is the tick .. fed the done sets in order from the fresh state; it meets no 8 or 9 there."
-    pub unrefused : sheetTicks s allDone p .refusal ≡ 0
+    -- the sheet "meets no 8 or 9 there"
+    pub unrefused : (i : ℕ) → i < length allDone → sheetTick i .refusal ≡ 0
     -- "the five words of the i-th done tick are the sets of the sheet's i-th tick"
-    pub words : flatten (map doneWords (runsFrom t q cs)) ≡ sheetTicks s allDone p .words
+    pub words : (i : ℕ) → i < length allDone → tickWords i ≡ fiveWords (sheetTick i .sets)
     -- "the sheet's mode set after it is consistent"
-    pub consistently : (i : ℕ) → i < length allDone → T (consistent s (sheetTicks s (take (suc i) allDone) p .state .at))
-    pub runs : (j : ℕ) → j < length cs → RunRight j (getD cs j (record { inputs = []; out = [] }))
+    pub consistently : (i : ℕ) → i < length allDone → T (consistent s (sheetState (suc i) .at))
+    pub runsRight : (j : ℕ) → j < length cs → RunRight j (getD cs j (record { inputs = []; out = [] }))
 
 -- "Its sheet is any that a compile did not refuse"; "its table is the words left there, as many as the length returned";
 -- "Power-on is the fresh state"; "For every such list".
 unfoldable pub WholeList : Type 0
 WholeList =
-    (s work table : List ℕ) → compile s work table .refusal ≡ 0
-    → (cs : List Call) → Served s (take (compile s work table .tableLength) (compile s work table .table)) powerOn powerOn cs
+    (s table work : List ℕ) → compile s table work .refusal ≡ 0
+    → (cs : List Call) → Served s (take (compile s table work .tableLength) (compile s table work .table)) cs

@@ -30,7 +30,7 @@ module _ (sheet table work info : List ℕ) where
   unfolding compileCall
   compile-nothing h = rw (lt-ltb (length info) 2 h)
 
-  pub compile-answered : 2 ≤ length info → (o : Compiled) (answer : ℕ) → o ≡ compile sheet work table → answer ≡ o .refusal
+  pub compile-answered : 2 ≤ length info → (o : Compiled) (answer : ℕ) → o ≡ compile sheet table work → answer ≡ o .refusal
       → record { answer = answer; table = o .table; work = o .work; info = sets info 0 (o .f ∷ o .tableLength ∷ []) } ≡ compileCall sheet table work info
   unfolding compileCall
   compile-answered h o answer e a =

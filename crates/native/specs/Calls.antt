@@ -19,7 +19,7 @@ pub record CompileCall : Type 0 where
 
 unfoldable pub compileCall : List ℕ → List ℕ → List ℕ → List ℕ → CompileCall
 compileCall sheet table work info =
-    let o = compile sheet work table in
+    let o = compile sheet table work in
     let nothing : CompileCall = record { answer = 4294967295; table = table; work = work; info = info } in
     let done : CompileCall =
     record { answer = o .refusal; table = o .table; work = o .work; info = overwritten (o .f ∷ o .tableLength ∷ []) info } in
