@@ -16,4 +16,6 @@ pub mod OneByOne
 pub mod WholeList
 pub mod Faithful
 pub mod Promises
+pub mod Charts
+pub mod Opened
 pub mod Examples

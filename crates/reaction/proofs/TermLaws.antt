@@ -2,13 +2,13 @@
 -- what terms that speak of events only do not look at. Assumes nothing.
 use mathlib.Core.Path.{_≡_, refl, sym, ap, ap₂, _∙_, subst}
 use mathlib.Core.Logic.{_⊎_, inl, inr, ⊎-elim}
-use mathlib.Core.Bool.{Bool, true, false, not, _&&_, _||_, cond}
-use mathlib.Core.List.{List, [], _∷_}
+use mathlib.Core.Bool.{Bool, true, false, not, _&&_, _||_, cond, and-true, and-assoc}
+use mathlib.Core.List.{List, [], _∷_, map}
 use Prim.Native.Nat.{ℕ, zero, suc, _+_, _-_, _*_, _^_, _≤_, _<_}
-use native.Mathlib.Nat.{le-of-suc-le-suc}
+use native.Mathlib.Nat.{le-of-suc-le-suc, lt-of-not-le}
 use native.Mathlib.Numerals.{add-one}
 use native.Mathlib.Omega.{arith}
-use lib.Dec.{T, eqb, leb, ltb, eqb→eq, ltb→lt}
+use lib.Dec.{T, eqb, leb, ltb, eqb→eq, ltb→lt, leb→le}
 use lib.Arith.{lt-of-le-ne}
 use lib.ListN.{getD}
 use borrow.Author.Tests.{eq-eqb, ne-eqb}
@@ -18,10 +18,10 @@ use Rattle.sets.proofs.Facts.{every-e}
 use Rattle.sets.proofs.Membership.{has-none, has-not}
 use Rattle.sets.proofs.Quantifiers.{meets-some}
 use Rattle.meaning.specs.Sheet.{word, nOf, kOf, tOf, offset, termCount, termKind, termValue}
-use Rattle.meaning.specs.Check.{termOk, sheetRefusal}
-use Rattle.meaning.specs.Reaction.{TickSets, isDelay, holds, alternativeFrom, alternative}
-use Rattle.meaning.proofs.ListLaws.{getD-true-lt}
-use Rattle.meaning.proofs.SheetLaws.{sound, n-le, k-le, t-le}
+use Rattle.meaning.specs.Lists.{allOf, firstOf}
+use Rattle.meaning.specs.Check.{kindOk, termOk, sheetRefusal}
+use Rattle.meaning.specs.Reaction.{TickSets, isDelay, holds, inFirst, alternativesFrom, alternatives, allHold, alternative}
+use Rattle.meaning.proofs.SheetLaws.{sound, n-le, k-le, t-le, kind-none}
 use Rattle.sheet.specs.Reading.{Record}
 use Rattle.sheet.proofs.SheetTestLaws.{placed}
 use Rattle.reaction.specs.Plan.{isEventKind, eventsOnly}
@@ -29,49 +29,31 @@ use Rattle.reaction.specs.Facts.{factsOf, holdsBy, alternativeByFrom, al
 
 -- ---- kinds and values in a sheet past 1 to 6
 
--- the conditions of the kinds in a row, where those of kinds 0, 3 and 7 are x, y and z: every other value is a number of an event, a
--- mode or a transition
-row-small : (n k m v : ℕ) (x y z : Bool) (c : ℕ) → k ≤ 6 → n ≤ 32 → m ≤ 64
-    → T (getD (x ∷ ltb v k ∷ ltb v k ∷ y ∷ ltb v n ∷ ltb v n ∷ ltb v m ∷ z ∷ []) c false)
-    → (c ≡ 0 → ⊥) → (c ≡ 3 → ⊥) → (c ≡ 7 → ⊥) → v < 64
-row-small n k m v x y z zero a b d h p q r = absurd (p refl)
-row-small n k m v x y z (suc zero) a b d h p q r = omega (arith, ltb→lt v k h)
-row-small n k m v x y z (suc (suc zero)) a b d h p q r = omega (arith, ltb→lt v k h)
-row-small n k m v x y z (suc (suc (suc zero))) a b d h p q r = absurd (q refl)
-row-small n k m v x y z (suc (suc (suc (suc zero)))) a b d h p q r = omega (arith, ltb→lt v n h)
-row-small n k m v x y z (suc (suc (suc (suc (suc zero))))) a b d h p q r = omega (arith, ltb→lt v n h)
-row-small n k m v x y z (suc (suc (suc (suc (suc (suc zero)))))) a b d h p q r = omega (arith, ltb→lt v m h)
-row-small n k m v x y z (suc (suc (suc (suc (suc (suc (suc zero))))))) a b d h p q r = absurd (r refl)
-row-small n k m v x y z (suc (suc (suc (suc (suc (suc (suc (suc c)))))))) a b d h p q r = absurd h
-
--- the conditions of term j of transition t, by its kind
-abbrev conditions : List ℕ → ℕ → ℕ → List Bool
-conditions s t j =
-    let v = termValue s t j in
-    (eqb (termCount s t) 1 && leb v 65535)
-    ∷ ltb v (kOf s)
-    ∷ ltb v (kOf s)
-    ∷ (ltb 0 v && ltb v (2 ^ nOf s))
-    ∷ ltb v (nOf s)
-    ∷ ltb v (nOf s)
-    ∷ ltb v (tOf s)
-    ∷ (eqb v 0 && ltb 0 j && ltb (suc j) (termCount s t) && not (eqb (termKind s t (suc j)) 7))
-    ∷ []
+-- every value but a delay, a mask and an "or" is a number of an event, a mode or a transition
+kind-small : (s : List ℕ) (t j c : ℕ) → kOf s ≤ 6 → nOf s ≤ 32 → tOf s ≤ 64 → T (kindOk s t j c)
+    → (c ≡ 0 → ⊥) → (c ≡ 3 → ⊥) → (c ≡ 7 → ⊥) → termValue s t j < 64
+unfolding kindOk
+kind-small s t j zero a b d h p q r = absurd (p refl)
+kind-small s t j (suc zero) a b d h p q r = omega (arith, ltb→lt (termValue s t j) (kOf s) h)
+kind-small s t j (suc (suc zero)) a b d h p q r = omega (arith, ltb→lt (termValue s t j) (kOf s) h)
+kind-small s t j (suc (suc (suc zero))) a b d h p q r = absurd (q refl)
+kind-small s t j (suc (suc (suc (suc zero)))) a b d h p q r = omega (arith, ltb→lt (termValue s t j) (nOf s) h)
+kind-small s t j (suc (suc (suc (suc (suc zero))))) a b d h p q r = omega (arith, ltb→lt (termValue s t j) (nOf s) h)
+kind-small s t j (suc (suc (suc (suc (suc (suc zero)))))) a b d h p q r = omega (arith, ltb→lt (termValue s t j) (tOf s) h)
+kind-small s t j (suc (suc (suc (suc (suc (suc (suc zero))))))) a b d h p q r = absurd (r refl)
+kind-small s t j (suc (suc (suc (suc (suc (suc (suc (suc c)))))))) a b d h p q r = absurd (of-false (kind-none s t j (suc (suc (suc (suc (suc (suc (suc (suc c)))))))) (omega arith)) h)
 
 module _ (s : List ℕ) (h : sheetRefusal s ≡ 0) (t j : ℕ) (l : t < tOf s) (k : j < termCount s t) where
-  met : T (getD (conditions s t j) (termKind s t j) false)
+  met-at : (d : ℕ) → termKind s t j ≡ d → T (kindOk s t j d)
   unfolding termOk
-  met = sound s h .terms t l j k
-
-  met-at : (d : ℕ) → termKind s t j ≡ d → T (getD (conditions s t j) d false)
-  met-at d e = subst (λ (c : ℕ). T (getD (conditions s t j) c false)) e met
+  met-at d e = subst (λ (c : ℕ). T (kindOk s t j c)) e (sound s h .terms t l j k)
 
   -- a kind is below 8, and 0 for a delay alone
   kind-lt : termKind s t j < 8
-  kind-lt = getD-true-lt (conditions s t j) (termKind s t j) met
+  kind-lt = lt-of-not-le (λ g. of-false (kind-none s t j (termKind s t j) g) (met-at (termKind s t j) refl))
 
   kind-pos : isDelay s t ≡ false → termKind s t j ≡ 0 → ⊥
-  unfolding isDelay
+  unfolding isDelay kindOk
   kind-pos d e =
       let one : termCount s t ≡ 1 = eqb→eq (termCount s t) 1 (and-l (eqb (termCount s t) 1) (leb (termValue s t j) 65535) (met-at 0 e)) in
       let z : j ≡ 0 = omega arith in
@@ -79,17 +61,15 @@ module _ (s : List ℕ) (h : sheetRefusal s ≡ 0) (t j : ℕ) (l : t < tOf s) (
 
   -- a value other than a mask is below 64
   value-small : (termKind s t j ≡ 0 → ⊥) → (termKind s t j ≡ 3 → ⊥) → (termKind s t j ≡ 7 → ⊥) → termValue s t j < 64
-  value-small =
-      let v = termValue s t j in
-      row-small (nOf s) (kOf s) (tOf s) v (eqb (termCount s t) 1 && leb v 65535) (ltb 0 v && ltb v (2 ^ nOf s))
-      (eqb v 0 && ltb 0 j && ltb (suc j) (termCount s t) && not (eqb (termKind s t (suc j)) 7)) (termKind s t j)
-      (k-le s (sound s h)) (n-le s (sound s h)) (t-le s (sound s h)) met
+  value-small = kind-small s t j (termKind s t j) (k-le s (sound s h)) (n-le s (sound s h)) (t-le s (sound s h)) (met-at (termKind s t j) refl)
 
   -- the number of an event, and a mask
   event-small : termKind s t j ≡ 2 → termValue s t j < 32
+  unfolding kindOk
   event-small e = omega (arith, k-le s (sound s h), ltb→lt (termValue s t j) (kOf s) (met-at 2 e))
 
   mask-lt : termKind s t j ≡ 3 → termValue s t j < 2 ^ nOf s
+  unfolding kindOk
   mask-lt e = ltb→lt (termValue s t j) (2 ^ nOf s) (and-r (ltb 0 (termValue s t j)) (ltb (termValue s t j) (2 ^ nOf s)) (met-at 3 e))
 
   -- what the test of a term of another kind than "or" asks, of words that are its kind and value
@@ -161,6 +141,16 @@ module _ (s : List ℕ) (c : ℕ) where
 
 -- ---- the words of a tick say of a term what its sets say
 
+-- the first of some tests, and ok
+unfoldable andFirst : Bool → List Bool → List Bool
+andFirst ok [] = []
+andFirst ok (b ∷ bs) = (ok && b) ∷ bs
+
+and-none : (l : List Bool) → andFirst true l ≡ l
+unfolding andFirst
+and-none [] = refl
+and-none (b ∷ l) = refl
+
 module _ (s : List ℕ) (i : ℕ) (z : TickSets) (b : i < 2 ^ 32) where
   holds-by : (c v : ℕ) → (c ≡ 2 → v < 32) → (c ≡ 3 → v < 2 ^ nOf s) → holdsBy (factsOf i z) c v ≡ holds s i z c v
   unfolding holdsBy holds someIn
@@ -172,23 +162,50 @@ module _ (s : List ℕ) (i : ℕ) (z : TickSets) (b : i < 2 ^ 32) where
   holds-by (suc (suc (suc (suc (suc zero))))) v p q = refl
   holds-by (suc (suc (suc (suc (suc (suc zero)))))) v p q = refl
   holds-by (suc (suc (suc (suc (suc (suc (suc zero))))))) v p q = has-none v
-  holds-by (suc (suc (suc (suc (suc (suc (suc (suc c)))))))) v p q = rw (ne-eqb (suc (suc (suc (suc (suc (suc (suc (suc c)))))))) 3 (λ e. omega arith)) (has-none v)
+  holds-by (suc (suc (suc (suc (suc (suc (suc (suc c)))))))) v p q = rw (not 1 tt, not 2 tt, not 3 tt, not 4 tt, not 5 tt, not 6 tt) (has-none v)
+    where
+      not : (d : ℕ) → T (leb d 7) → eqb (suc (suc (suc (suc (suc (suc (suc (suc c)))))))) d ≡ false
+      not d k = ne-eqb (suc (suc (suc (suc (suc (suc (suc (suc c)))))))) d (λ e. omega (arith, leb→le d 7 k))
 
+  -- the alternatives of the terms from term j on, where the terms before j that belong to the first have held or not
+  abbrev fromHere : ℕ → ℕ → ℕ → Bool → List Bool
+  fromHere t w j ok = andFirst ok (map (allHold s i z t) (alternativesFrom s t w j))
+
+  -- one term more of the first alternative
+  more-first : (t j : ℕ) (ok : Bool) (l : List (List ℕ))
+      → andFirst (ok && holds s i z (termKind s t j) (termValue s t j)) (map (allHold s i z t) l) ≡ andFirst ok (map (allHold s i z t) (inFirst j l))
+  unfolding andFirst allHold inFirst allOf
+  more-first t j ok [] = refl
+  more-first t j ok (js ∷ l) =
+      ap (λ (b : Bool). b ∷ map (allHold s i z t) l) (and-assoc ok (holds s i z (termKind s t j) (termValue s t j)) (allHold s i z t js))
+
+  -- the recursion that the code follows gives the first alternative that holds
   by-from : (f : List ℕ) (t w j a : ℕ) (ok : Bool) → ((u : ℕ) → u < j + w → holdsBy f (termKind s t u) (termValue s t u) ≡ holds s i z (termKind s t u) (termValue s t u))
-      → alternativeByFrom s f t w j a ok ≡ alternativeFrom s i z t w j a ok
-  unfolding alternativeByFrom alternativeFrom
-  by-from f t zero j a ok h = refl
-  by-from f t (suc w) j a ok h =
-      let on : (u : ℕ) → u < suc j + w → holdsBy f (termKind s t u) (termValue s t u) ≡ holds s i z (termKind s t u) (termValue s t u) = λ u l. h u (omega arith) in
-      ap₂ (λ (x y : ℕ). cond (eqb (termKind s t j) 7) (cond ok a x) y) (by-from f t w (suc j) (suc a) true on)
-      (ap (λ (x : Bool). alternativeByFrom s f t w (suc j) a (ok && x)) (h j (omega arith))
-      ∙ by-from f t w (suc j) a (ok && holds s i z (termKind s t j) (termValue s t j)) on)
+      → alternativeByFrom s f t w j a ok ≡ firstOf a (fromHere t w j ok)
+  unfolding alternativeByFrom alternativesFrom andFirst allHold allOf firstOf
+  by-from f t zero j a ok h = ap (λ (b : Bool). cond b a 0) (sym (and-true ok))
+  by-from f t (suc w) j a ok h = go (eqb (termKind s t j) 7) (by-from f t w (suc j) (suc a) true on) (by-from f t w (suc j) a (ok && holds s i z (termKind s t j) (termValue s t j)) on)
+    where
+      on : (u : ℕ) → u < suc j + w → holdsBy f (termKind s t u) (termValue s t u) ≡ holds s i z (termKind s t u) (termValue s t u)
+      on u l = h u (omega arith)
+
+      go : (b : Bool) → alternativeByFrom s f t w (suc j) (suc a) true ≡ firstOf (suc a) (fromHere t w (suc j) true)
+          → alternativeByFrom s f t w (suc j) a (ok && holds s i z (termKind s t j) (termValue s t j)) ≡ firstOf a (fromHere t w (suc j) (ok && holds s i z (termKind s t j) (termValue s t j)))
+          → cond b (cond ok a (alternativeByFrom s f t w (suc j) (suc a) true)) (alternativeByFrom s f t w (suc j) a (ok && holdsBy f (termKind s t j) (termValue s t j)))
+          ≡ firstOf a (andFirst ok (map (allHold s i z t) (cond b ([] ∷ alternativesFrom s t w (suc j)) (inFirst j (alternativesFrom s t w (suc j))))))
+      go true next same =
+          ap₂ (λ (b : Bool) (n : ℕ). cond b a n) (sym (and-true ok)) (next ∙ ap (firstOf (suc a)) (and-none (map (allHold s i z t) (alternativesFrom s t w (suc j)))))
+      go false next same =
+          ap (λ (b : Bool). alternativeByFrom s f t w (suc j) a (ok && b)) (h j (omega arith))
+          ∙ same
+          ∙ ap (firstOf a) (more-first t j ok (alternativesFrom s t w (suc j)))
 
   pub alternative-by : (t : ℕ) → sheetRefusal s ≡ 0 → t < tOf s → alternativeBy s (factsOf i z) t ≡ alternative s i z t
-  unfolding alternativeBy alternative
+  unfolding alternativeBy alternative alternatives
   alternative-by t h l =
       by-from (factsOf i z) t (termCount s t) 0 1 true
       (λ u k. let m : u < termCount s t = omega arith in holds-by (termKind s t u) (termValue s t u) (event-small s h t u l m) (mask-lt s h t u l m))
+      ∙ ap (firstOf 1) (and-none (map (allHold s i z t) (alternativesFrom s t (termCount s t) 0)))
 
 -- ---- terms that speak of events only say the same on any sets
 
@@ -201,7 +218,7 @@ module _ (s : List ℕ) (i : ℕ) (y z : TickSets) where
       at d e k = rw (eqb→eq c d k) e
 
   pub events-alone : (t : ℕ) → i < 2 ^ 32 → sheetRefusal s ≡ 0 → t < tOf s → eventsOnly s t ≡ true → alternative s i y t ≡ alternative s i z t
-  unfolding eventsOnly alternativeBy alternative
+  unfolding eventsOnly alternativeBy alternative alternatives
   events-alone t b h l e =
       sym (alternative-by s i y b t h l)
       ∙ by-from s i z b (factsOf i y) t (termCount s t) 0 1 true
@@ -209,3 +226,4 @@ module _ (s : List ℕ) (i : ℕ) (y z : TickSets) where
       let m : u < termCount s t = omega arith in
       holds-by s i y b (termKind s t u) (termValue s t u) (event-small s h t u l m) (mask-lt s h t u l m)
       ∙ event-same (termKind s t u) (termValue s t u) (every-e (termCount s t) (λ j. isEventKind (termKind s t j)) (of-true e) u m))
+      ∙ ap (firstOf 1) (and-none (map (allHold s i z t) (alternativesFrom s t (termCount s t) 0)))

@@ -17,8 +17,9 @@ use Rattle.sets.proofs.Tests.{of-true, and-l, and-r, bool-ext}
 use Rattle.sets.proofs.Facts.{every-e}
 use Rattle.meaning.specs.Lists.{allOf}
 use Rattle.meaning.specs.Sheet.{nOf, kOf, tOf, kind, offset, recordLength, endBefore, source, target, termCount, termKind, termValue, contains, meeting}
-use Rattle.meaning.specs.Check.{headOk, pairOk, pairsOk, endOk, termOk}
+use Rattle.meaning.specs.Check.{headOk, pairOk, pairsOk, endOk, kindOk, termOk}
 use Rattle.meaning.proofs.ListLaws.{allOf-e, steps-le}
+use Rattle.meaning.proofs.SheetLaws.{kind-none}
 use Rattle.sheet.specs.Reading.{Record, Term}
 
 -- ---- the head
@@ -128,20 +129,17 @@ orOk-is s t j v f g r hf hg hr = rw (← add-one j, hr, hg, hf)
 -- a term's condition, where several kinds have it
 module _ (s : List ℕ) (t j : ℕ) where
   pub event-term : 0 < termKind s t j → termKind s t j < 3 → termOk s t j ≡ ltb (termValue s t j) (kOf s)
-  unfolding termOk
+  unfolding termOk kindOk
   event-term p q =
       ⊎-elim (λ (e : 1 ≡ termKind s t j). rw (sym e)) (λ (l : 1 < termKind s t j). let e : termKind s t j ≡ 2 = omega arith in rw e)
       (eq-or-lt-of-le p)
 
   pub mode-term : 3 < termKind s t j → termKind s t j < 6 → termOk s t j ≡ ltb (termValue s t j) (nOf s)
-  unfolding termOk
+  unfolding termOk kindOk
   mode-term p q =
       ⊎-elim (λ (e : 4 ≡ termKind s t j). rw (sym e)) (λ (l : 4 < termKind s t j). let e : termKind s t j ≡ 5 = omega arith in rw e)
       (eq-or-lt-of-le p)
 
   pub other-term : 7 < termKind s t j → termOk s t j ≡ false
   unfolding termOk
-  other-term p =
-      let m = termKind s t j - 8 in
-      let e : termKind s t j ≡ suc (suc (suc (suc (suc (suc (suc (suc m))))))) = omega arith in
-      rw e
+  other-term p = kind-none s t j (termKind s t j) p

@@ -36,7 +36,7 @@ returns-2 : tie.Need-returns-2
 returns-2 c =
     let a = c .before .before .before .before .before .before .before .before .before .before .before .before .before .args in
     let o = c .before .before .before .before .before .compile in
-    compile-answered (a .sheet .now) (a .table .now) (a .work .now) (a .info .now) (omega arith) (compiledOf (o .result) (o .last .1 .1 .0) (o .last .1 .0)) (c .number .result) (o .ensures) (c .number .ensures)
+    compile-answered (a .sheet .now) (a .table .now) (a .work .now) (a .info .now) (omega arith) (compiledOf (o .result) (o .last .1 .0) (o .last .1 .1 .0)) (c .number .result) (o .ensures) (c .number .ensures)
 
 pub modechart-compile-spec : {M : Type 1} → statement M
 modechart-compile-spec =

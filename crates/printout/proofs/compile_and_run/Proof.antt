@@ -11,8 +11,8 @@ use Rattle.meaning.proofs.CompiledLaws.{compile-length}
 use Rattle.printout.proofs.compile_and_run.Statement.{statement}
 use Rattle.printout.proofs.compile_and_run.Tie as tie
 
-length-fits : (r : Compiled) (sheet work table : List ℕ) → r ≡ compile sheet work table → r .tableLength ≤ length table
-length-fits r sheet work table e = rw e (compile-length sheet work table)
+length-fits : (r : Compiled) (sheet table work : List ℕ) → r ≡ compile sheet table work → r .tableLength ≤ length table
+length-fits r sheet table work e = rw e (compile-length sheet table work)
 
 table-fits : (c : tie.Else1) → let call = c .before .before .before .before .compile in call .result .«table_length» ≤ length (call .last .1 .0)
 table-fits c =

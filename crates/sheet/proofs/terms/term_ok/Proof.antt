@@ -3,7 +3,7 @@ use native.Mathlib.Omega.{arith}
 use borrow.Author.Needs.{needs}
 use mathlib.Core.Path.{sym, _∙_}
 use borrow.Author.Tests.{eq-eqb, ne-eqb}
-use Rattle.meaning.specs.Check.{termOk}
+use Rattle.meaning.specs.Check.{kindOk, termOk}
 use Rattle.sheet.proofs.SheetTestLaws.{head-of, event-term, mode-term, other-term}
 use Rattle.sheet.proofs.terms.term_ok.Statement.{statement}
 use Rattle.sheet.proofs.terms.term_ok.Tie as tie
@@ -42,27 +42,27 @@ mode-count-requires-2 : tie.Need-mode-count-requires-2
 mode-count-requires-2 c κs = search needs
 
 returns : tie.Need-returns
-unfolding termOk
+unfolding termOk kindOk
 returns c = rw (sym (c .before .before .before .term-kind .ensures) ∙ c .before .before .match .keys1, eq-eqb _ 1 (sym (c .before .term-count .ensures) ∙ c .if1 .taken), c .before .before .before .before .term-value .ensures)
 
 returns-2 : tie.Need-returns-2
-unfolding termOk
+unfolding termOk kindOk
 returns-2 c =
     let n = c .before .term-count .ensures in
     rw (sym (c .before .before .before .term-kind .ensures) ∙ c .before .before .match .keys1, n, ne-eqb _ 1 (λ e. c .if1 .left (n ∙ e)))
 
 returns-3 : tie.Need-returns-3
-unfolding termOk
+unfolding termOk kindOk
 returns-3 c =
     rw (sym (c .before .before .before .term-kind .ensures) ∙ c .before .before .match .keys2)
     (rw (c .before .mode-count .ensures, c .before .before .before .before .term-value .ensures) at (c .mask-ok .ensures))
 
 returns-4 : tie.Need-returns-4
-unfolding termOk
+unfolding termOk kindOk
 returns-4 c = rw (sym (c .before .before .before .term-kind .ensures) ∙ c .before .before .match .keys3, c .before .wide .ensures, c .before .before .before .before .term-value .ensures, c .transition-count .ensures)
 
 returns-5 : tie.Need-returns-5
-unfolding termOk
+unfolding termOk kindOk
 returns-5 c = rw (sym (c .before .before .term-kind .ensures) ∙ c .before .match .keys4) (rw (c .before .before .before .term-value .ensures) at (c .or-ok .ensures))
 
 returns-6 : tie.Need-returns-6
