@@ -13,14 +13,13 @@ use Rattle.sets.proofs.Membership.{same-members, has-union, has-meet, has-minus
 use Rattle.meaning.specs.Lists.{rowFrom, isIn}
 use Rattle.meaning.specs.Sheet.{tOf, source}
 use Rattle.meaning.specs.Hierarchy.{exits, enters}
-use Rattle.meaning.specs.Reaction.{TickSets, delay, running, ambiguous, exiting, entering, afterRound}
-use Rattle.meaning.specs.Tick.{chosen}
-use Rattle.meaning.specs.TickInWords.{restarted}
-use Rattle.meaning.specs.OneByOne.{Reaction, takeOne, takeInOrder, takeTogether}
+use Rattle.meaning.specs.Reaction.{TickSets, delay, running, exiting, entering, afterRound}
+use Rattle.meaning.specs.TickInWords.{restarted, chosenAt}
+use Rattle.meaning.specs.OneByOne.{Reaction, takeOne, takeInOrder, takeTogether, eligibleIn}
 use Rattle.meaning.specs.Promises.{AnyOrder}
 use Rattle.meaning.proofs.ListLaws.{rowFrom-at, rowFrom-ext, rowFrom-length, rowFrom-getD, anyOf, anyOf-e, anyOf-i}
 use Rattle.meaning.proofs.SheetLaws.{Sound, sound}
-use Rattle.meaning.proofs.TickLaws.{chosen-lt, modes-after, running-e, running-i}
+use Rattle.meaning.proofs.TickLaws.{modes-after, running-e, running-i, eligible-lt}
 use Rattle.meaning.proofs.Consistency.{exiting-e, exiting-i, entering-e, entering-i, clear-apart, exits-enters-apart}
 
 -- ---- one transition more, at one mode: y it is active; x, n the transition exits, enters it; x′, n′ a later one does
@@ -209,15 +208,11 @@ module _ (s : List ℕ) (sd : Sound s) (y : Reaction) (es : ℕ) (small : (t : �
           (λ j a b. ap (λ (v : Bool). cond v (delay s j) (getD (y .readings) j 0)) (running-is j))
 
 -- the eligible transitions of a round that is not ambiguous, in any order; of none the readings must be 64, as those of a state are
-in-order : (s : List ℕ) → Sound s → (y : Reaction) (d i : ℕ) → ambiguous s (chosen s d i (y .sets)) ≡ false
-    → (order : List ℕ) → ((t : ℕ) → isIn t order ≡ has (chosen s d i (y .sets)) t) → (order ≡ [] → length (y .readings) ≡ 64)
-    → takeInOrder s y order ≡ takeTogether s y (chosen s d i (y .sets))
-in-order s sd y d i e order same h =
-    let es = chosen s d i (y .sets) in
-    let small : (t : ℕ) → T (has es t) → t < tOf s = chosen-lt s d i (y .sets) in
-    together s sd y es small order same (takeInOrder s y order)
-    (left s order y (λ t u a b. exits-enters-apart s sd es small (clear-apart s sd es small e) t u (subst T (same t) a) (subst T (same u) b)) h)
-
 pub any-order : AnyOrder
 unfolding AnyOrder
-any-order s h y d i k e order same = in-order s (sound s h) y d i e order same (λ g. k)
+any-order s h y i k e order same =
+    let sd = sound s h in
+    let es = eligibleIn s i y in
+    let small : (t : ℕ) → T (has es t) → t < tOf s = unfold eligibleIn chosenAt in (eligible-lt s _) in
+    together s sd y es small order same (takeInOrder s y order)
+    (left s order y (λ t u a b. exits-enters-apart s sd es small (clear-apart s sd es small e) t u (subst T (same t) a) (subst T (same u) b)) (λ g. k))

@@ -285,6 +285,16 @@ module _ (s : List ℕ) (sd : Sound s) where
         go (inl w) = E t a .distinct (siblings s (tree s sd) (exitTop s t) (enterTop s t) (c-n t a) (E t a .left .pos) (E t a .right .pos) par w)
         go (inr w) = E t a .distinct (sym (siblings s (tree s sd) (enterTop s t) (exitTop s t) (e-n t a) (E t a .right .pos) (E t a .left .pos) (sym par) w))
 
+    -- the source of one of them is neither exited nor entered by another
+    pub source-apart : (t u : ℕ) → T (has es t) → T (has es u) → (t ≡ u → ⊥) → (T (has (exits s u) (source s t)) → ⊥) × (T (has (enters s u) (source s t)) → ⊥)
+    source-apart t u a b ne = (
+      λ h. ne (same t u a b (within-total own (within-trans (p-c u b) (exits-e u (source s t) h .1)))),
+      λ h. ne (same t u a b (within-total own (within-trans (p-e u b) (W u b .below (source s t) (E t a .source-n) h)))),
+    )
+      where
+        own : Within s (meeting s t) (source s t)
+        own = within-trans (p-c t a) (E t a .left .holds)
+
     -- a round from a consistent set where every source is active
     module _ (z : TickSets) (M : Cons s (z .modes)) (on : (t : ℕ) → T (has es t) → T (has (z .modes) (source s t))) where
       abbrev x′ : ℕ

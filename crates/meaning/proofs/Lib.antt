@@ -9,6 +9,7 @@ pub mod Fuel
 pub mod TickLaws
 pub mod Consistency
 pub mod AnyOrder
+pub mod StayTriggered
 pub mod ReadingLaws
 pub mod TickInWordsLaws
 pub mod RunLaws
@@ -21,6 +22,7 @@ pub mod FaithfulLaws
 pub mod Simulation
 pub mod ServedLaws
 pub mod WholeListLaws
+pub mod StateLaws
 pub mod TableFaithful
 pub mod TableSound
 pub mod CompiledLaws

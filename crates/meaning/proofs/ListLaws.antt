@@ -2,11 +2,11 @@
 use mathlib.Core.Path.{_≡_, refl, sym, ap, ap₂, _∙_, subst}
 use mathlib.Core.Logic.{_⊎_, inl, inr}
 use mathlib.Core.Bool.{Bool, true, false, _&&_, _||_, cond, and-false}
-use mathlib.Core.List.{List, [], _∷_, _++_, flatten, append-assoc}
+use mathlib.Core.List.{List, [], _∷_, _++_, flatten, append-assoc, map}
 use Prim.Native.Nat.{ℕ, zero, suc, _+_, _*_, _≤_, _<_}
 use native.Mathlib.Nat.{le-refl, le-trans, le-of-eq, not-suc-le-zero, le-of-suc-le-suc, eq-or-lt-of-le, add-zero, zero-add, mul-zero, mul-suc}
 use native.Mathlib.Omega.{arith}
-use lib.Dec.{T, eqb, eqb→eq, eqb-refl}
+use lib.Dec.{T, eqb, eqb→eq, eqb-refl, ltb, lt→ltb}
 use lib.ListN.{length, getD, length-append}
 use lib.Seq.{ext-getD}
 use Rattle.sets.proofs.Tests.{and-l, and-r, and-i, or-e, or-l, or-r}
@@ -59,6 +59,23 @@ firstOf-off i (b ∷ bs) h = go b refl h (firstOf-off (suc i) bs)
     go : (c : Bool) → b ≡ c → cond c (suc i) (firstOf (suc (suc i)) bs) ≡ 0 → (firstOf (suc (suc i)) bs ≡ 0 → Off bs) → (b ≡ false) × Off bs
     go true e k ih = absurd (omega arith)
     go false e k ih = (e, ih k)
+
+-- where g holds of all of which f holds, the first test that applies may come earlier, and there is one
+pub firstOf-more : {A : Type 0} (f g : A → Bool) → ((x : A) → T (f x) → T (g x)) → (i : ℕ) (l : List A)
+    → T (ltb 0 (firstOf (suc i) (map f l))) → T (ltb 0 (firstOf (suc i) (map g l)))
+unfolding firstOf
+firstOf-more f g h i [] k = k
+firstOf-more f g h i (x ∷ l) k = go (f x) (g x) refl refl k (firstOf-more f g h (suc i) l)
+  where
+    some-one : T (ltb 0 (suc i))
+    some-one = lt→ltb 0 (suc i) (omega arith)
+
+    go : (a b : Bool) → f x ≡ a → g x ≡ b → T (ltb 0 (cond a (suc i) (firstOf (suc (suc i)) (map f l))))
+        → (T (ltb 0 (firstOf (suc (suc i)) (map f l))) → T (ltb 0 (firstOf (suc (suc i)) (map g l))))
+        → T (ltb 0 (cond b (suc i) (firstOf (suc (suc i)) (map g l))))
+    go a true ea eb u ih = some-one
+    go true false ea eb u ih = absurd (subst T eb (h x (subst T (sym ea) tt)))
+    go false false ea eb u ih = ih u
 
 -- numbers that do not fall from one to the next
 pub steps-le : (e : ℕ → ℕ) (n : ℕ) → ((i : ℕ) → i < n → e i ≤ e (suc i)) → (i j : ℕ) → i ≤ j → j ≤ n → e i ≤ e j

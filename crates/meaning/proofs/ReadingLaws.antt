@@ -6,18 +6,19 @@ use mathlib.Core.List.{List}
 use Prim.Native.Nat.{ℕ, _-_, _≤_, _<_}
 use native.Mathlib.Nat.{lt-of-lt-of-le}
 use native.Mathlib.Omega.{arith}
-use lib.Dec.{T, eqb, leb, ltb, eqb→eq, leb→le, ltb→lt}
+use lib.Dec.{T, eqb, leb, ltb, eqb→eq, leb→le, ltb→lt, le→leb}
 use lib.ListN.{getD, getD-replicate}
-use borrow.Author.Tests.{eqb-false}
+use borrow.Author.Tests.{eqb-false, eq-eqb}
 use Rattle.sets.specs.Sets.{has}
-use Rattle.sets.proofs.Tests.{is-true, is-false, and-l, and-r, and-i, cond-ext}
+use Rattle.sets.proofs.Tests.{is-true, is-false, and-l, and-r, and-i, cond-ext, of-true}
 use Rattle.sets.proofs.Membership.{has-none}
+use Rattle.sets.proofs.Facts.{every-e, every-i}
 use Rattle.sets.proofs.Those.{has-those}
 use Rattle.meaning.specs.Sheet.{tOf, recordLength, source, termCount, termKind, termValue}
 use Rattle.meaning.specs.Check.{pairOk, kindOk, termOk}
 use Rattle.meaning.specs.Reaction.{TickSets, isDelay, delay, isTimer, running}
 use Rattle.meaning.specs.Tick.{tick}
-use Rattle.meaning.specs.Run.{State, reading, powerOn, dueTimers, nextReadings, nextState}
+use Rattle.meaning.specs.Run.{State, reading, powerOn, dueTimers, nextReadings, nextState, readingsOk}
 use Rattle.meaning.specs.SheetRun.{tickFrom, stateAfter}
 use Rattle.meaning.proofs.ListLaws.{row-at, allOf-e, rowFrom-ext}
 use Rattle.meaning.proofs.SheetLaws.{Sound, t-le}
@@ -47,6 +48,37 @@ pub due-at : (timers : ℕ) (readings : List ℕ) (t : ℕ) → t < 64
     → has (dueTimers timers readings) t ≡ (has timers t && eqb (reading readings t - 1) 0)
 unfolding dueTimers
 due-at timers readings t l = has-those 64 timers (λ u. eqb (reading readings u - 1) 0) t l
+
+-- each running reading is 1 to its delay and the others are 0: what the test says, and how it is shown
+module _ (timers : ℕ) (delayOf : ℕ → ℕ) (readings : List ℕ) where
+  abbrev fits : Bool → ℕ → Bool
+  fits b t = cond b (leb 1 (reading readings t) && leb (reading readings t) (delayOf t)) (eqb (reading readings t) 0)
+
+  fit-at : T (readingsOk timers delayOf readings) → (t : ℕ) → t < 64 → (b : Bool) → has timers t ≡ b → T (fits b t)
+  unfolding readingsOk
+  fit-at h t l b e = subst (λ (c : Bool). T (fits c t)) e (every-e 64 (λ u. fits (has timers u) u) h t l)
+
+  pub readings-ok-running : T (readingsOk timers delayOf readings) → (t : ℕ) → t < 64 → T (has timers t)
+      → (1 ≤ reading readings t) × (reading readings t ≤ delayOf t)
+  readings-ok-running h t l r =
+      let k = fit-at h t l true (is-true (has timers t) r) in
+      let a = leb 1 (reading readings t) in
+      let b = leb (reading readings t) (delayOf t) in
+      (leb→le 1 (reading readings t) (and-l a b k), leb→le (reading readings t) (delayOf t) (and-r a b k))
+
+  pub readings-ok-zero : T (readingsOk timers delayOf readings) → (t : ℕ) → t < 64 → has timers t ≡ false → reading readings t ≡ 0
+  readings-ok-zero h t l e = eqb→eq (reading readings t) 0 (fit-at h t l false e)
+
+  pub readings-ok-i : ((t : ℕ) → t < 64 → T (has timers t) → (1 ≤ reading readings t) × (reading readings t ≤ delayOf t))
+      → ((t : ℕ) → t < 64 → has timers t ≡ false → reading readings t ≡ 0) → T (readingsOk timers delayOf readings)
+  unfolding readingsOk
+  readings-ok-i right zero = every-i 64 (λ t. fits (has timers t) t) (λ t l. go t l (has timers t) refl)
+    where
+      go : (t : ℕ) → t < 64 → (b : Bool) → has timers t ≡ b → T (fits b t)
+      go t l true e =
+          let k = right t l (of-true e) in
+          and-i (leb 1 (reading readings t)) (leb (reading readings t) (delayOf t)) (le→leb 1 (reading readings t) (k .0)) (le→leb (reading readings t) (delayOf t) (k .1))
+      go t l false e = of-true (eq-eqb (reading readings t) 0 (zero t l e))
 
 -- a timer's delay is 1 or more
 pub delay-pos : (s : List ℕ) (t : ℕ) → T (isTimer s t) → 1 ≤ delay s t
@@ -129,6 +161,11 @@ module _ (s : List ℕ) where
   -- the readings of timers that do not run are 0
   abbrev pub Zeros : State → Type 0
   Zeros p = (u : ℕ) → u < 64 → has (running s (p .at)) u ≡ false → reading (p .readings) u ≡ 0
+
+  -- the readings that 14 admits
+  pub readings-sound : Sound s → (p : State) → Right p → Zeros p → T (readingsOk (running s (p .at)) (delay s) (p .readings))
+  unfolding Right
+  readings-sound sd p right zeros = readings-ok-i (running s (p .at)) (delay s) (p .readings) (λ t l r. right t r) zeros
 
   pub zeros-fresh : Zeros powerOn
   unfolding powerOn reading

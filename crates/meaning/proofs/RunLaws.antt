@@ -6,9 +6,10 @@ use mathlib.Core.List.{List, [], _∷_, _++_, append-assoc}
 use Prim.Native.Nat.{ℕ, suc, _+_, _*_, _≤_, zero-le}
 use native.Mathlib.Nat.{zero-add, add-assoc, mul-suc}
 use native.Mathlib.Omega.{arith}
-use lib.Dec.{eqb}
+use lib.Dec.{eqb, T}
 use lib.ListN.{length, length-append}
 use borrow.Author.Tests.{eqb-true, eqb-false, eq-eqb, ne-eqb}
+use Rattle.sets.proofs.Tests.{is-true, of-true}
 use Rattle.meaning.specs.Lists.{refusedIf, firstRefusal}
 use Rattle.meaning.specs.Run.{State, Step, Ticks, stops, tickThen, outputShort, inputForeign, Run, ran, tickRefusal, ticks, run}
 use Rattle.meaning.proofs.RefusalLaws.{first-met, first-passed, first-alone, none-met, unmet}
@@ -212,3 +213,43 @@ module _ (k : ℕ) (step : State → ℕ → Step) where
         go : (b : Bool) → P (ran out (cond b (ticks k step inputs q) (stops refusedFirst q)))
         go true = good
         go false = bad refusedFirst
+
+  -- ---- 14 and what a run returns
+
+  module _ (refusal : ℕ) (none : refusal ≡ 0) (admits : State → Bool) where
+    abbrev runOn : State → List ℕ → List ℕ → Run
+    runOn q inputs out = run k step refusal (admits q) q inputs out
+
+    -- where done ticks leave states that are admitted, a run that is not refused 14 returns one
+    pub run-leaves : ((p : State) (i : ℕ) → tickRefusal k step p i ≡ 0 → T (admits p) → T (admits (step p i .state)))
+        → (q : State) (inputs out : List ℕ) → (runOn q inputs out .refusal ≡ 14 → ⊥) → T (admits (runOn q inputs out .state))
+    run-leaves keeps q inputs out n = go (admits q) refl
+      where
+        go : (b : Bool) → admits q ≡ b → T (admits (runOn q inputs out .state))
+        go true e =
+            run-all refusal (admits q) q inputs out (λ r. T (admits (r .state))) (λ _. unfold ran stops in (of-true e))
+            (unfold ran in (ticks-keep (λ p. T (admits p)) keeps inputs q (of-true e)))
+        go false e = absurd (n (ap (λ (r : Run). r .refusal) (run-state refusal (admits q) q inputs out none e) ∙ (unfold ran stops in refl)))
+
+    -- where no tick is refused 14, neither is a run from a state that is admitted
+    pub run-admitted : ((p : State) (i : ℕ) → step p i .refusal ≡ 14 → ⊥) → (q : State) (inputs out : List ℕ) → T (admits q) → runOn q inputs out .refusal ≡ 14 → ⊥
+    run-admitted other q inputs out ok = go (outputShort inputs out) refl
+      where
+        admitted : admits q ≡ true
+        admitted = is-true (admits q) ok
+
+        tick-other : (p : State) (i : ℕ) (b : Bool) → inputForeign k i ≡ b → tickRefusal k step p i ≡ 14 → ⊥
+        tick-other p i true e h = let z = tick-foreign p i e in omega arith
+        tick-other p i false e h = other p i (sym (tick-known p i e) ∙ h)
+
+        ticks-other : (is : List ℕ) (p : State) → ticks k step is p .refusal ≡ 14 → ⊥
+        ticks-other =
+            unfold stops tickThen in
+            (ticks-all (λ _ _ x. x .refusal ≡ 14 → ⊥) (λ _ h. omega arith) (λ i _ p _ h. tick-other p i (inputForeign k i) refl h) (λ _ _ _ _ ih h. ih h))
+
+        go : (b : Bool) → outputShort inputs out ≡ b → runOn q inputs out .refusal ≡ 14 → ⊥
+        go true e h =
+            let r : runOn q inputs out .refusal ≡ 12 = ap (λ (x : Run). x .refusal) (run-short refusal (admits q) q inputs out none admitted e) ∙ (unfold ran stops in refl) in
+            omega arith
+        go false e h =
+            ticks-other inputs q (sym (ap (λ (x : Run). x .refusal) (run-goes refusal (admits q) q inputs out none admitted e) ∙ (unfold ran in refl)) ∙ h)

@@ -6,7 +6,7 @@ use mathlib.Core.List.{List, [], _∷_, _++_, map, flatten, append-nil}
 use Prim.Native.Nat.{ℕ, zero, suc, _*_, _<_}
 use native.Mathlib.Nat.{not-suc-le-zero, le-of-suc-le-suc}
 use native.Mathlib.Omega.{arith}
-use lib.Dec.{T, eqb, leb, ltb, le→leb, lt→ltb}
+use lib.Dec.{T, eqb, ltb, lt→ltb}
 use lib.ListN.{length, getD, take}
 use lib.Seq.{take-at}
 use borrow.Author.Tests.{eqb-true, eqb-false, eq-eqb}
@@ -25,9 +25,9 @@ use Rattle.meaning.specs.Table.{kIn, bIn, delayIn, maskIn, timersIn, tab
 use Rattle.meaning.specs.TableRun.{tableStep, tableStateOk, tableTicks, tableRun}
 use Rattle.meaning.specs.WholeList.{Call, legal, doneSets, refusalOf, runsFrom, doneWords, allDone}
 use Rattle.meaning.specs.Faithful.{faithful}
-use Rattle.meaning.proofs.SheetLaws.{Sound, sound}
+use Rattle.meaning.proofs.SheetLaws.{Sound}
 use Rattle.meaning.proofs.TickLaws.{running-e, running-none}
-use Rattle.meaning.proofs.ReadingLaws.{Right, right-fresh, Zeros, zeros-fresh, zeros-next}
+use Rattle.meaning.proofs.ReadingLaws.{Right, right-fresh, Zeros, zeros-fresh, zeros-next, readings-ok-i}
 use Rattle.meaning.proofs.RunLaws.{ticksThen, ticks-split, ticks-keep, done-all, words-five, run-short, run-goes}
 use Rattle.meaning.proofs.SheetTicksLaws.{five-long, Steady, steady-after, consistent-after}
 use Rattle.meaning.proofs.LayoutLaws.{b-pos, mask-first}
@@ -74,41 +74,35 @@ module _ (s : List ℕ) (sd : Sound s) (w : List ℕ) (ok : T (tableOk w)) (f : 
     runs-same : (u : ℕ) → has (timersIn w (q .at)) u ≡ has (running s (p .at)) u
     runs-same u = ap (λ (x : ℕ). has x u) (timers-stand s sd w ok f q p st)
 
-    abbrev fits : Bool → ℕ → Bool
-    fits v u = cond v (leb 1 (reading (q .readings) u) && leb (reading (q .readings) u) (delayIn w u)) (eqb (reading (q .readings) u) 0)
-
-    reading-ok : (u : ℕ) → u < 64 → (v : Bool) → has (timersIn w (q .at)) u ≡ v → T (fits v u)
+    readings-ok : T (readingsOk (timersIn w (q .at)) (delayIn w) (q .readings))
     unfolding Right
-    reading-ok u l true e =
-        let on = subst T (runs-same u) (of-true e) in
-        let b = right u on in
-        let k = running-e s (p .at) u on in
+    readings-ok =
+        readings-ok-i (timersIn w (q .at)) (delayIn w) (q .readings)
+        (λ u l on.
+        let r = subst T (runs-same u) on in
+        let k = running-e s (p .at) u r in
+        let b = right u r in
         let d = delay-same s w f sd u (k .small) (k .timer) in
-        and-i (leb 1 (reading (q .readings) u)) (leb (reading (q .readings) u) (delayIn w u))
-        (le→leb 1 (reading (q .readings) u) (omega (arith, same u))) (le→leb (reading (q .readings) u) (delayIn w u) (omega (arith, same u)))
-    reading-ok u l false e = of-true (eq-eqb (reading (q .readings) u) 0 (same u ∙ zeros u l (sym (runs-same u) ∙ e)))
+        (omega (arith, same u), omega (arith, same u)))
+        (λ u l e. same u ∙ zeros u l (sym (runs-same u) ∙ e))
 
-    state-ok : T (tableStateOk w q)
-    unfolding tableStateOk isFresh readingsOk
+    pub state-ok : T (tableStateOk w q)
+    unfolding tableStateOk isFresh
     state-ok = go (eqb (q .at) 0) refl
       where
         fresh : Bool
         fresh = every 64 (λ u. eqb (reading (q .readings) u) 0)
 
-        sound-readings : Bool
-        sound-readings = every 64 (λ u. fits (has (timersIn w (q .at)) u) u)
-
-        go : (v : Bool) → eqb (q .at) 0 ≡ v → T (v && fresh || ltb 0 (q .at) && ltb (q .at) (bIn w) && sound-readings)
+        go : (v : Bool) → eqb (q .at) 0 ≡ v → T (v && fresh || ltb 0 (q .at) && ltb (q .at) (bIn w) && readingsOk (timersIn w (q .at)) (delayIn w) (q .readings))
         go true e =
             let z : p .at ≡ 0 = sym (st .same) ∙ ap (maskIn w) (eqb-true (q .at) 0 e) ∙ mask-first w ok in
-            or-l fresh (ltb 0 (q .at) && ltb (q .at) (bIn w) && sound-readings)
+            or-l fresh (ltb 0 (q .at) && ltb (q .at) (bIn w) && readingsOk (timersIn w (q .at)) (delayIn w) (q .readings))
             (every-i 64 (λ u. eqb (reading (q .readings) u) 0) (λ u l.
             of-true (eq-eqb (reading (q .readings) u) 0 (same u ∙ zeros u l (ap (λ (x : ℕ). has x u) (ap (running s) z ∙ running-none s) ∙ has-none u)))))
         go false e =
             let n = eqb-false (q .at) 0 e in
-            and-i (ltb 0 (q .at) && ltb (q .at) (bIn w)) sound-readings
-            (and-i (ltb 0 (q .at)) (ltb (q .at) (bIn w)) (lt→ltb 0 (q .at) (omega arith)) (lt→ltb (q .at) (bIn w) (st .low)))
-            (every-i 64 (λ u. fits (has (timersIn w (q .at)) u) u) (λ u l. reading-ok u l (has (timersIn w (q .at)) u) refl))
+            and-i (ltb 0 (q .at) && ltb (q .at) (bIn w)) (readingsOk (timersIn w (q .at)) (delayIn w) (q .readings))
+            (and-i (ltb 0 (q .at)) (ltb (q .at) (bIn w)) (lt→ltb 0 (q .at) (omega arith)) (lt→ltb (q .at) (bIn w) (st .low))) readings-ok
 
   -- ---- one call
 

@@ -9,8 +9,10 @@ use Rattle.meaning.proofs.Fuel.{containment-enough, meeting-enough, com
 use Rattle.meaning.proofs.WalkFuel.{walk-enough}
 use Rattle.meaning.proofs.TickInWordsLaws.{in-words}
 use Rattle.meaning.proofs.AnyOrder.{any-order}
+use Rattle.meaning.proofs.StayTriggered.{stay-triggered}
 use Rattle.meaning.proofs.ServedLaws.{served-from-power-on}
 use Rattle.meaning.proofs.WholeListLaws.{served-each}
+use Rattle.meaning.proofs.StateLaws.{sheet-state-stays, table-state-stays, sheet-runs-on, table-runs-on, faithful-not-stale}
 use Rattle.meaning.proofs.SheetLaws.{sound}
 use Rattle.meaning.proofs.CompiledLaws.{compiled-faithful-from, compiled-passes}
 
@@ -49,6 +51,12 @@ promised =
       childEnough = child-enough;
       inWords = in-words;
       anyOrder = any-order;
+      stayTriggered = stay-triggered;
+      sheetStateStays = sheet-state-stays;
+      tableStateStays = table-state-stays;
+      sheetRunsOn = sheet-runs-on;
+      tableRunsOn = table-runs-on;
+      faithfulNotStale = faithful-not-stale;
       compiledFaithful = compiled-faithful;
       faithfulServes = faithful-serves;
     }

@@ -6,8 +6,8 @@ use mathlib.Core.List.{List}
 use Prim.Native.Nat.{ℕ, zero, suc, _+_, _^_, _≤_, _<_, zero-le}
 use native.Mathlib.Nat.{le-refl, le-trans, lt-of-lt-of-le, lt-of-le-of-lt, not-suc-le-zero, le-of-suc-le-suc, eq-zero-or-pos}
 use native.Mathlib.Omega.{arith}
-use lib.Dec.{T, eqb, ltb, lt→ltb}
-use borrow.Author.Tests.{eqb-true, eqb-false}
+use lib.Dec.{T, eqb, leb, ltb, lt→ltb, leb→le}
+use borrow.Author.Tests.{eqb-true, eqb-false, ne-eqb}
 use Rattle.sets.specs.Sets.{has, minus, single, size, someIn}
 use Rattle.sets.proofs.Tests.{is-false, of-true, and-l, and-r, and-i, or-e, or-l, or-r}
 use Rattle.sets.proofs.Membership.{has-none, has-union, has-minus, setOf-lt}
@@ -16,7 +16,7 @@ use Rattle.sets.proofs.Those.{those-lt}
 use Rattle.sets.proofs.Members.{empty}
 use Rattle.meaning.specs.Sheet.{tOf, source, strictlyContains}
 use Rattle.meaning.specs.Hierarchy.{complete}
-use Rattle.meaning.specs.Reaction.{TickSets, isDelay, delay, isTimer, running, alternative, isDue, trigger, triggered, conflict, givesWay, eligible, ambiguous, restless, exiting, entering, afterRound}
+use Rattle.meaning.specs.Reaction.{TickSets, isDelay, delay, isTimer, running, holds, alternative, isDue, trigger, triggered, conflict, givesWay, eligible, ambiguous, restless, exiting, entering, afterRound}
 use Rattle.meaning.specs.Tick.{Tick, begin, chosen, roundsFrom, tick}
 use Rattle.meaning.specs.Promises.{TickRounds, RoundsEnough}
 use Rattle.meaning.proofs.SheetLaws.{Sound, tree, source-lt}
@@ -35,7 +35,7 @@ module _ (s : List ℕ) (d i : ℕ) where
   module _ (P : ℕ → TickSets → ℕ → Tick → Type 0)
       (spent : (z : TickSets) (r : ℕ) → P 0 z r (record { refusal = 0; sets = z; rounds = r }))
       (none : (f : ℕ) (z : TickSets) (r : ℕ) → chosen s d i z ≡ 0 → P (suc f) z r (record { refusal = 0; sets = z; rounds = r }))
-      (bad : (f : ℕ) (z : TickSets) (r e : ℕ) → (e ≡ 0 → ⊥) → P (suc f) z r (record { refusal = e; sets = z; rounds = r }))
+      (bad : (f : ℕ) (z : TickSets) (r e : ℕ) → (e ≡ 8) ⊎ (e ≡ 9) → P (suc f) z r (record { refusal = e; sets = z; rounds = r }))
       (more : (f : ℕ) (z : TickSets) (r : ℕ) (o : Tick) → Taken z → P f (afterRound s z (chosen s d i z)) (suc r) o → P (suc f) z r o) where
     pub rounds-all : (f : ℕ) (z : TickSets) (r : ℕ) → P f z r (roundsFrom s f d i z r)
     unfolding roundsFrom
@@ -54,8 +54,8 @@ module _ (s : List ℕ) (d i : ℕ) where
             (cond b (record { refusal = 8; sets = z; rounds = r })
             (cond c (record { refusal = 9; sets = z; rounds = r }) on)))
         go true b c ea eb ec ih = none f z r (eqb-true es 0 ea)
-        go false true c ea eb ec ih = bad f z r 8 (λ h. omega arith)
-        go false false true ea eb ec ih = bad f z r 9 (λ h. omega arith)
+        go false true c ea eb ec ih = bad f z r 8 (inl refl)
+        go false false true ea eb ec ih = bad f z r 9 (inr refl)
         go false false false ea eb ec ih = more f z r on (record { filled = ea; clear = eb; fresh = ec }) ih
 
   pub rounds-ind : (P : TickSets → ℕ → Type 0)
@@ -64,15 +64,31 @@ module _ (s : List ℕ) (d i : ℕ) where
   rounds-ind P step =
       rounds-all (λ _ z r o. P z r → P (o .sets) (o .rounds)) (λ _ _ p. p) (λ _ _ _ _ p. p) (λ _ _ _ _ _ p. p) (λ f z r o t ih p. ih (step z r p t))
 
+  -- rounds are refused 8 or 9, or not at all
+  pub rounds-refusal : (f : ℕ) (z : TickSets) (r : ℕ) → roundsFrom s f d i z r .refusal ≤ 9
+  rounds-refusal =
+      rounds-all (λ _ _ _ o. o .refusal ≤ 9) (λ _ _. zero-le) (λ _ _ _ _. zero-le) (λ _ _ _ e n. ⊎-elim (λ k. omega arith) (λ k. omega arith) n)
+      (λ _ _ _ _ _ ih. ih)
+
   -- rounds that are not refused end where none is eligible, or with the fuel
   pub rounds-end : (f : ℕ) (z : TickSets) (r : ℕ) → roundsFrom s f d i z r .refusal ≡ 0
       → (chosen s d i (roundsFrom s f d i z r .sets) ≡ 0) ⊎ (roundsFrom s f d i z r .rounds ≡ r + f)
   rounds-end =
       rounds-all (λ f z r o. o .refusal ≡ 0 → (chosen s d i (o .sets) ≡ 0) ⊎ (o .rounds ≡ r + f))
-      (λ _ r _. inr (omega arith)) (λ _ _ _ h _. inl h) (λ _ _ _ e n h. absurd (n h))
+      (λ _ r _. inr (omega arith)) (λ _ _ _ h _. inl h) (λ _ _ _ e n h. absurd (⊎-elim (λ k. omega arith) (λ k. omega arith) n))
       (λ f z r o t ih h. ⊎-elim (λ x. inl x) (λ x. inr (omega arith)) (ih h))
 
 -- ---- a round takes a transition not taken before
+
+module _ (s : List ℕ) (ts : ℕ) where
+  -- an eligible one of ts is below T, and one of ts
+  pub eligible-lt : (t : ℕ) → T (has (eligible s ts) t) → t < tOf s
+  unfolding eligible
+  eligible-lt t h = those-e (tOf s) ts (λ u. not (someIn (tOf s) ts (givesWay s u))) t h .0
+
+  pub eligible-among : (t : ℕ) → T (has (eligible s ts) t) → T (has ts t)
+  unfolding eligible
+  eligible-among t h = those-e (tOf s) ts (λ u. not (someIn (tOf s) ts (givesWay s u))) t h .1
 
 module _ (s : List ℕ) (d i : ℕ) where
   pub triggered-lt : (z : TickSets) (t : ℕ) → T (has (triggered s d i z) t) → t < tOf s
@@ -81,14 +97,12 @@ module _ (s : List ℕ) (d i : ℕ) where
 
   -- an eligible transition is below T and triggered
   pub chosen-lt : (z : TickSets) (t : ℕ) → T (has (chosen s d i z) t) → t < tOf s
-  unfolding chosen eligible
-  chosen-lt z t h = those-e (tOf s) (triggered s d i z) (λ u. not (someIn (tOf s) (triggered s d i z) (givesWay s u))) t h .0
+  unfolding chosen
+  chosen-lt z t h = eligible-lt s (triggered s d i z) t h
 
   pub chosen-triggered : (z : TickSets) (t : ℕ) → T (has (chosen s d i z) t) → T (ltb 0 (trigger s d i z t))
-  unfolding chosen eligible triggered
-  chosen-triggered z t h =
-      setOf-e (tOf s) (λ u. ltb 0 (trigger s d i z u)) t
-      (those-e (tOf s) (triggered s d i z) (λ u. not (someIn (tOf s) (triggered s d i z) (givesWay s u))) t h .1) .1
+  unfolding chosen triggered
+  chosen-triggered z t h = setOf-e (tOf s) (λ u. ltb 0 (trigger s d i z u)) t (eligible-among s (triggered s d i z) t h) .1
 
   pub chosen-small : (z : TickSets) → chosen s d i z < 2 ^ tOf s
   unfolding chosen eligible
@@ -346,3 +360,11 @@ not-due s sd d i x e t r n =
     (and-l (isDelay s t) (ltb 0 (delay s t)) (on .timer)) k n in
     let none = settled s sd d i x e t (on .small) in
     omega arith)
+
+-- no term of a kind above 6 holds: an "or" is none
+pub holds-none : (s : List ℕ) (i : ℕ) (z : TickSets) (c v : ℕ) → 6 < c → holds s i z c v ≡ false
+unfolding holds
+holds-none s i z c v l = rw (not-kind 1 tt, not-kind 2 tt, not-kind 3 tt, not-kind 4 tt, not-kind 5 tt, not-kind 6 tt)
+  where
+    not-kind : (d : ℕ) → T (leb d 6) → eqb c d ≡ false
+    not-kind d k = ne-eqb c d (λ e. omega (arith, leb→le d 6 k))

@@ -1,8 +1,7 @@
 -- What is served from power-on, done tick by done tick. Assumes nothing.
-use mathlib.Core.Path.{_≡_, refl, sym, ap, ap₂, _∙_, subst}
+use mathlib.Core.Path.{_≡_, refl, sym, ap, _∙_, subst}
 use mathlib.Core.List.{List, [], _∷_, _++_, map, flatten}
 use Prim.Native.Nat.{ℕ, zero, suc, _+_, _*_, _≤_, zero-le, _<_}
-use native.Mathlib.Nat.{le-trans}
 use native.Mathlib.Omega.{arith}
 use lib.Dec.{T}
 use lib.ListN.{length, getD, take, drop, take-append-drop, length-append}
@@ -12,7 +11,7 @@ use Rattle.meaning.specs.Hierarchy.{consistent}
 use Rattle.meaning.specs.Tick.{fiveWords}
 use Rattle.meaning.specs.Run.{State, powerOn, Ticks, stops, tickThen, tickRefusal, ticks}
 use Rattle.meaning.specs.SheetRun.{tickFrom, stateAfter, sheetStep, sheetTicks}
-use Rattle.meaning.specs.WholeList.{Call, doneSets, doneWords, runsFrom, allDone, doneSet, sheetState, sheetTick, runs, runOf, stateBefore, tickWords, doneBy, RunRight, Served}
+use Rattle.meaning.specs.WholeList.{Call, doneSets, allDone, doneSet, sheetState, sheetTick, runs, runOf, stateBefore, tickWords, doneBy, RunRight, Served}
 use Rattle.meaning.proofs.RunLaws.{ticksThen, tick-done, ticks-go, first-done, ticks-split, front-done, done-all, words-five}
 use Rattle.meaning.proofs.SheetTicksLaws.{five-long}
 use Rattle.meaning.proofs.ServedLaws.{runFrom, stateFrom, sheetBy, RunRightFrom, ServedFrom}

@@ -1,10 +1,13 @@
--- Document 002 takes one transition at a time: its step, and the steps of a list of transitions in order. Assumes nothing.
+-- Document 002 takes one transition at a time: what its step does, and what the steps of a list of transitions do in order. Its whole rule
+-- has more: after each step it looks again at what is triggered and gives way (Examples, `outer-triggered`). Assumes nothing.
+use mathlib.Core.Bool.{Bool}
 use mathlib.Core.List.{List, [], _∷_}
 use Prim.Native.Nat.{ℕ}
+use lib.Dec.{ltb}
 use Rattle.sets.specs.Sets.{union, minus, meet, single}
 use Rattle.meaning.specs.Hierarchy.{exits, enters}
 use Rattle.meaning.specs.Reaction.{TickSets, entering, afterRound}
-use Rattle.meaning.specs.TickInWords.{restarted}
+use Rattle.meaning.specs.TickInWords.{triggerAt, chosenAt, restarted}
 
 -- what a reaction changes: the sets of the tick and the readings
 pub record Reaction : Type 0 where
@@ -12,6 +15,13 @@ pub record Reaction : Type 0 where
   pub readings : List ℕ
 
 module _ (s : List ℕ) where
+  -- t is triggered on the input i; the eligible transitions
+  unfoldable pub isTriggered : ℕ → Reaction → ℕ → Bool
+  isTriggered i y t = ltb 0 (triggerAt s i (y .sets) (y .readings) t)
+
+  unfoldable pub eligibleIn : ℕ → Reaction → ℕ
+  eligibleIn i y = chosenAt s i (y .sets) (y .readings)
+
   -- t alone is taken: it exits what is active of its exits, enters its enters, and starts the timers whose source it enters
   unfoldable pub takeOne : Reaction → ℕ → Reaction
   takeOne y t =

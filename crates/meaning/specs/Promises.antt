@@ -13,13 +13,15 @@ use Rattle.meaning.specs.Sheet.{nOf, tOf, parent, contains, containsIn, 
 use Rattle.meaning.specs.Check.{sheetRefusal}
 use Rattle.meaning.specs.Hierarchy.{consistent, completedIn, childIn}
 use Rattle.meaning.specs.Reaction.{ambiguous}
-use Rattle.meaning.specs.Tick.{begin, chosen, roundsFrom, tick}
-use Rattle.meaning.specs.Run.{State}
-use Rattle.meaning.specs.SheetRun.{tickFrom, stateAfter, sheetTicks}
+use Rattle.meaning.specs.Tick.{begin, roundsFrom, tick}
+use Rattle.meaning.specs.Run.{State, inputForeign}
+use Rattle.meaning.specs.SheetRun.{stateOk, tickFrom, stateAfter, sheetStep, sheetTicks, sheetRun}
+use Rattle.meaning.specs.Table.{kIn, tableOk}
+use Rattle.meaning.specs.TableRun.{tableStateOk, tableStep, tableRun}
 use Rattle.meaning.specs.TickInWords.{timedTick, timedState}
-use Rattle.meaning.specs.OneByOne.{Reaction, takeInOrder, takeTogether}
+use Rattle.meaning.specs.OneByOne.{Reaction, isTriggered, eligibleIn, takeInOrder, takeTogether}
 use Rattle.meaning.specs.Compile.{walkFrom, walk}
-use Rattle.meaning.specs.Faithful.{FaithfulServes, CompiledFaithful}
+use Rattle.meaning.specs.Faithful.{faithful, FaithfulServes, CompiledFaithful}
 
 -- a tick from power-on or from a consistent set leaves a consistent set
 unfoldable pub KeepsConsistent : Type 0
@@ -66,10 +68,49 @@ InWords =
 -- ambiguous, taken one at a time in any order, leave what the round leaves
 unfoldable pub AnyOrder : Type 0
 AnyOrder =
-    (s : List ℕ) → sheetRefusal s ≡ 0 → (y : Reaction) (d i : ℕ) → length (y .readings) ≡ 64
-    → ambiguous s (chosen s d i (y .sets)) ≡ false
-    → (order : List ℕ) → ((t : ℕ) → isIn t order ≡ has (chosen s d i (y .sets)) t)
-    → takeInOrder s y order ≡ takeTogether s y (chosen s d i (y .sets))
+    (s : List ℕ) → sheetRefusal s ≡ 0 → (y : Reaction) (i : ℕ) → length (y .readings) ≡ 64
+    → ambiguous s (eligibleIn s i y) ≡ false
+    → (order : List ℕ) → ((t : ℕ) → isIn t order ≡ has (eligibleIn s i y) t)
+    → takeInOrder s y order ≡ takeTogether s y (eligibleIn s i y)
+
+-- and while they are taken, in any order, those not yet taken stay triggered
+unfoldable pub StayTriggered : Type 0
+StayTriggered =
+    (s : List ℕ) → sheetRefusal s ≡ 0 → (y : Reaction) (i : ℕ) → ambiguous s (eligibleIn s i y) ≡ false
+    → (before : List ℕ) → ((u : ℕ) → T (isIn u before) → T (has (eligibleIn s i y) u))
+    → (t : ℕ) → T (has (eligibleIn s i y) t) → isIn t before ≡ false → T (isTriggered s i (takeInOrder s y before) t)
+
+-- ---- states stay good
+
+-- from a state that is not refused 14, a done tick leaves a state that is not refused 14
+unfoldable pub SheetStateStays : Type 0
+SheetStateStays =
+    (s : List ℕ) → sheetRefusal s ≡ 0 → (q : State) (i : ℕ) → T (stateOk s q) → sheetStep s q i .refusal ≡ 0
+    → T (stateOk s (sheetStep s q i .state))
+
+-- so in a table run of a faithful table, where every tick on a known set is done: none is refused 15
+unfoldable pub TableStateStays : Type 0
+TableStateStays =
+    (s w : List ℕ) → sheetRefusal s ≡ 0 → T (tableOk w) → T (faithful s w) → (q : State) (i : ℕ) → T (tableStateOk w q) → inputForeign (kIn w) i ≡ false
+    → (tableStep w q i .refusal ≡ 0) × T (tableStateOk w (tableStep w q i .state))
+
+-- no run is refused 14 on what a run returned that was not refused 14 itself
+unfoldable pub SheetRunsOn : Type 0
+SheetRunsOn =
+    (s : List ℕ) → sheetRefusal s ≡ 0 → (q : State) (inputs out more out′ : List ℕ) → (sheetRun s q inputs out .refusal ≡ 14 → ⊥)
+    → sheetRun s (sheetRun s q inputs out .state) more out′ .refusal ≡ 14 → ⊥
+
+unfoldable pub TableRunsOn : Type 0
+TableRunsOn =
+    (s w : List ℕ) → sheetRefusal s ≡ 0 → T (tableOk w) → T (faithful s w) → (q : State) (inputs out more out′ : List ℕ)
+    → (tableRun w q inputs out .refusal ≡ 14 → ⊥)
+    → tableRun w (tableRun w q inputs out .state) more out′ .refusal ≡ 14 → ⊥
+
+-- a run of a faithful table is never refused 15, from any state
+unfoldable pub FaithfulNotStale : Type 0
+FaithfulNotStale =
+    (s w : List ℕ) → sheetRefusal s ≡ 0 → T (tableOk w) → T (faithful s w) → (q : State) (inputs out : List ℕ)
+    → tableRun w q inputs out .refusal ≡ 15 → ⊥
 
 -- all of them
 pub record Promised : Type 0 where
@@ -84,5 +125,11 @@ pub record Promised : Type 0 where
   pub childEnough : ChildEnough
   pub inWords : InWords
   pub anyOrder : AnyOrder
+  pub stayTriggered : StayTriggered
+  pub sheetStateStays : SheetStateStays
+  pub tableStateStays : TableStateStays
+  pub sheetRunsOn : SheetRunsOn
+  pub tableRunsOn : TableRunsOn
+  pub faithfulNotStale : FaithfulNotStale
   pub compiledFaithful : CompiledFaithful
   pub faithfulServes : FaithfulServes

@@ -1,0 +1,209 @@
+-- States stay good: a done tick leaves a state that 14 admits, and a faithful table never meets 15. Assumes nothing.
+use mathlib.Core.Path.{_≡_, refl, sym, ap, _∙_, subst}
+use mathlib.Core.Logic.{_⊎_, inl, inr, ⊎-elim}
+use mathlib.Core.Bool.{Bool, true, false, not, _&&_, cond}
+use mathlib.Core.List.{List}
+use Prim.Native.Nat.{ℕ, suc, _≤_, _<_}
+use native.Mathlib.Nat.{lt-of-lt-of-le}
+use native.Mathlib.Omega.{arith}
+use lib.Dec.{T, eqb, ltb, eqb→eq, ltb→lt}
+use lib.ListN.{length}
+use Rattle.sets.specs.Sets.{has, every}
+use Rattle.sets.proofs.Tests.{is-true, of-true, and-l, and-r, and-i, or-e, or-r}
+use Rattle.sets.proofs.Facts.{every-e}
+use Rattle.meaning.specs.Lists.{refusedIf}
+use Rattle.meaning.specs.Sheet.{kOf, tOf}
+use Rattle.meaning.specs.Check.{sheetRefusal}
+use Rattle.meaning.specs.Hierarchy.{consistent}
+use Rattle.meaning.specs.Reaction.{running, delay}
+use Rattle.meaning.specs.Tick.{begin, tick}
+use Rattle.meaning.specs.Run.{State, reading, isFresh, readingsOk, inputForeign, stops, Run, ran, run, nextState, outputShort, dueTimers}
+use Rattle.meaning.specs.SheetRun.{stateOk, tickFrom, stateAfter, sheetStep, sheetRun}
+use Rattle.meaning.specs.Table.{kIn, bIn, delayIn, maskIn, timersIn, tableOk}
+use Rattle.meaning.specs.TableRun.{tableStateOk, cellOf, stateAfterCell, isStale, tableStep, tableRun}
+use Rattle.meaning.specs.WholeList.{legal}
+use Rattle.meaning.specs.Faithful.{faithful}
+use Rattle.meaning.specs.Promises.{SheetStateStays, TableStateStays, SheetRunsOn, TableRunsOn, FaithfulNotStale}
+use Rattle.meaning.proofs.SheetLaws.{Sound, sound, t-le}
+use Rattle.meaning.proofs.TickLaws.{running-e, rounds-refusal}
+use Rattle.meaning.proofs.Consistency.{keeps-consistent}
+use Rattle.meaning.proofs.ReadingLaws.{readings-ok-running, readings-ok-zero, Right, right-fresh, right-next, Zeros, readings-sound, zeros-next}
+use Rattle.meaning.proofs.RunLaws.{tick-known, tick-done, run-state, run-short, run-goes, run-leaves, run-admitted}
+use Rattle.meaning.proofs.SheetTicksLaws.{Steady}
+use Rattle.meaning.proofs.LayoutLaws.{b-pos, mask-first}
+use Rattle.meaning.proofs.FaithfulLaws.{k-same, delay-same}
+use Rattle.meaning.proofs.Simulation.{Stands, timers-stand, stands-next, table-good, right-step, ticks-agree}
+use Rattle.meaning.proofs.ServedLaws.{state-ok}
+
+-- a fresh state: its set or block is 0, and so is every reading
+fresh-at : (q : State) → T (isFresh q) → q .at ≡ 0
+unfolding isFresh
+fresh-at q h = eqb→eq (q .at) 0 (and-l (eqb (q .at) 0) (every 64 (λ t. eqb (reading (q .readings) t) 0)) h)
+
+fresh-zero : (q : State) → T (isFresh q) → (t : ℕ) → t < 64 → reading (q .readings) t ≡ 0
+unfolding isFresh
+fresh-zero q h t l =
+    eqb→eq (reading (q .readings) t) 0
+    (every-e 64 (λ u. eqb (reading (q .readings) u) 0) (and-r (eqb (q .at) 0) (every 64 (λ u. eqb (reading (q .readings) u) 0)) h) t l)
+
+-- ---- a sheet's states
+
+-- a state that 14 admits
+record Good (s : List ℕ) (q : State) : Type 0 where
+  steady : Steady s q
+  right : Right s q
+  zeros : Zeros s q
+
+module _ (s : List ℕ) (sd : Sound s) where
+  good-e : (q : State) → T (stateOk s q) → Good s q
+  unfolding stateOk
+  good-e q h = ⊎-elim fresh other (or-e (isFresh q) (consistent s (q .at) && readingsOk (running s (q .at)) (delay s) (q .readings)) h)
+    where
+      fresh : T (isFresh q) → Good s q
+      fresh k = record { steady = inl (fresh-at q k); right = right-fresh s q (fresh-at q k); zeros = λ u l _. fresh-zero q k u l }
+
+      other : T (consistent s (q .at) && readingsOk (running s (q .at)) (delay s) (q .readings)) → Good s q
+      other k =
+          let c = consistent s (q .at) in
+          let r = and-r c (readingsOk (running s (q .at)) (delay s) (q .readings)) k in
+          record {
+            steady = inr (and-l c (readingsOk (running s (q .at)) (delay s) (q .readings)) k);
+            right = unfold Right in (λ t on. readings-ok-running (running s (q .at)) (delay s) (q .readings) r t (lt-of-lt-of-le (running-e s (q .at) t on .small) (t-le s sd)) on);
+            zeros = readings-ok-zero (running s (q .at)) (delay s) (q .readings) r;
+          }
+
+  stays : (q : State) (i : ℕ) → T (stateOk s q) → sheetStep s q i .refusal ≡ 0 → T (stateOk s (sheetStep s q i .state))
+  unfolding sheetStep stateOk
+  stays q i h e =
+      let g = good-e q h in
+      let o = stateAfter s q (tickFrom s q i .sets) in
+      or-r (isFresh o) (consistent s (o .at) && readingsOk (running s (o .at)) (delay s) (o .readings))
+      (and-i (consistent s (o .at)) (readingsOk (running s (o .at)) (delay s) (o .readings))
+      (unfold stateAfter nextState tickFrom in (keeps-consistent s sd (q .at) _ i (g .steady)))
+      (readings-sound s sd o (right-next s sd q i (g .right) e) (zeros-next s q (tickFrom s q i .sets))))
+
+pub sheet-state-stays : SheetStateStays
+unfolding SheetStateStays
+sheet-state-stays s h q i ok e = stays s (sound s h) q i ok e
+
+-- ---- a faithful table's states
+
+module _ (s : List ℕ) (sd : Sound s) (w : List ℕ) (ok : T (tableOk w)) (f : T (faithful s w)) where
+  -- the sheet's state that q stands for
+  abbrev meant : State → State
+  meant q = record { at = maskIn w (q .at); readings = q .readings }
+
+  record StandsGood (q : State) : Type 0 where
+    stands : Stands s sd w ok f q (meant q)
+    right : Right s (meant q)
+    zeros : Zeros s (meant q)
+
+  stands-good : (q : State) → T (tableStateOk w q) → StandsGood q
+  unfolding tableStateOk
+  stands-good q h = ⊎-elim fresh other (or-e (isFresh q) (ltb 0 (q .at) && ltb (q .at) (bIn w) && readingsOk (timersIn w (q .at)) (delayIn w) (q .readings)) h)
+    where
+      fresh : T (isFresh q) → StandsGood q
+      fresh k =
+          record {
+            stands = record { low = subst (λ (b : ℕ). b < bIn w) (sym (fresh-at q k)) (b-pos w ok); same = refl; readings = refl };
+            right = right-fresh s (meant q) (ap (maskIn w) (fresh-at q k) ∙ mask-first w ok);
+            zeros = λ u l _. fresh-zero q k u l;
+          }
+
+      other : T (ltb 0 (q .at) && ltb (q .at) (bIn w) && readingsOk (timersIn w (q .at)) (delayIn w) (q .readings)) → StandsGood q
+      other k = record { stands = st; right = unfold Right in right; zeros = λ u l e. readings-ok-zero (timersIn w (q .at)) (delayIn w) (q .readings) r u l (ap (λ (x : ℕ). has x u) same ∙ e) }
+        where
+          place : T (ltb 0 (q .at) && ltb (q .at) (bIn w))
+          place = and-l (ltb 0 (q .at) && ltb (q .at) (bIn w)) (readingsOk (timersIn w (q .at)) (delayIn w) (q .readings)) k
+
+          r : T (readingsOk (timersIn w (q .at)) (delayIn w) (q .readings))
+          r = and-r (ltb 0 (q .at) && ltb (q .at) (bIn w)) (readingsOk (timersIn w (q .at)) (delayIn w) (q .readings)) k
+
+          st : Stands s sd w ok f q (meant q)
+          st = record { low = ltb→lt (q .at) (bIn w) (and-r (ltb 0 (q .at)) (ltb (q .at) (bIn w)) place); same = refl; readings = refl }
+
+          same : timersIn w (q .at) ≡ running s (maskIn w (q .at))
+          same = timers-stand s sd w ok f q (meant q) st
+
+          right : (t : ℕ) → T (has (running s (maskIn w (q .at))) t) → (1 ≤ reading (q .readings) t) × (reading (q .readings) t ≤ delay s t)
+          right t on =
+              let g = running-e s (maskIn w (q .at)) t on in
+              let b = readings-ok-running (timersIn w (q .at)) (delayIn w) (q .readings) r t (lt-of-lt-of-le (g .small) (t-le s sd)) (subst (λ (x : ℕ). T (has x t)) (sym same) on) in
+              (b .0, subst (λ (d : ℕ). reading (q .readings) t ≤ d) (delay-same s w f sd t (g .small) (g .timer)) (b .1))
+
+  table-stays : (q : State) (i : ℕ) → T (tableStateOk w q) → inputForeign (kIn w) i ≡ false → (tableStep w q i .refusal ≡ 0) × T (tableStateOk w (tableStep w q i .state))
+  table-stays q i h known =
+      let g = stands-good q h in
+      let known′ = subst (λ (k : ℕ). inputForeign k i ≡ false) (k-same s w f) known in (
+        sym (tick-known (kIn w) (tableStep w) q i known) ∙ table-good s sd w ok f q (meant q) (g .stands) i known′ (g .right),
+        state-ok s sd w ok f (tableStep w q i .state) (sheetStep s (meant q) i .state) (stands-next s sd w ok f q (meant q) (g .stands) i known′)
+            (right-step s sd w ok f q (meant q) (g .stands) i known′ (g .right)) (unfold sheetStep in (zeros-next s (meant q) _)),
+      )
+
+pub table-state-stays : TableStateStays
+unfolding TableStateStays
+table-state-stays s w h ok f q i admitted known = table-stays s (sound s h) w ok f q i admitted known
+
+-- ---- runs
+
+-- a tick is refused 8 or 9, or not at all
+tick-other : (s : List ℕ) (q : State) (i : ℕ) → sheetStep s q i .refusal ≡ 14 → ⊥
+unfolding sheetStep tickFrom tick
+tick-other s q i h = let k = rounds-refusal s (dueTimers (running s (q .at)) (q .readings)) i (suc (tOf s)) (begin s (q .at)) 0 in omega arith
+
+pub sheet-runs-on : SheetRunsOn
+unfolding SheetRunsOn sheetRun
+sheet-runs-on s h q inputs out more out′ n =
+    run-admitted (kOf s) (sheetStep s) (sheetRefusal s) h (stateOk s) (tick-other s) _ more out′
+    (run-leaves (kOf s) (sheetStep s) (sheetRefusal s) h (stateOk s) (λ p i e ok. stays s (sound s h) p i ok (tick-done (kOf s) (sheetStep s) p i e .1)) q inputs out n)
+
+-- a tick of a table is refused 15, or not at all
+step-other : (w : List ℕ) (q : State) (i : ℕ) → tableStep w q i .refusal ≡ 14 → ⊥
+unfolding tableStep refusedIf
+step-other w q i = go (isStale w (stateAfterCell w q (cellOf w q i)))
+  where
+    go : (b : Bool) → refusedIf b 15 ≡ 14 → ⊥
+    go true h = omega arith
+    go false h = omega arith
+
+layout-ok : (w : List ℕ) → T (tableOk w) → refusedIf (not (tableOk w)) 15 ≡ 0
+unfolding refusedIf
+layout-ok w ok = ap (λ (b : Bool). cond (not b) 15 0) (is-true (tableOk w) ok)
+
+pub table-runs-on : TableRunsOn
+unfolding TableRunsOn tableRun
+table-runs-on s w h ok f q inputs out more out′ n =
+    run-admitted (kIn w) (tableStep w) _ (layout-ok w ok) (tableStateOk w) (step-other w) _ more out′
+    (run-leaves (kIn w) (tableStep w) _ (layout-ok w ok) (tableStateOk w)
+    (λ p i e admitted. table-stays s (sound s h) w ok f p i admitted (tick-done (kIn w) (tableStep w) p i e .0) .1) q inputs out n)
+
+pub faithful-not-stale : FaithfulNotStale
+unfolding FaithfulNotStale tableRun
+faithful-not-stale s w h ok f q inputs out = go (tableStateOk w q) (outputShort inputs out) refl refl
+  where
+    sd : Sound s
+    sd = sound s h
+
+    R : Run
+    R = run (kIn w) (tableStep w) (refusedIf (not (tableOk w)) 15) (tableStateOk w q) q inputs out
+
+    go : (a b : Bool) → tableStateOk w q ≡ a → outputShort inputs out ≡ b → R .refusal ≡ 15 → ⊥
+    go false b e k z =
+        let r : R .refusal ≡ 14 = ap (λ (x : Run). x .refusal) (run-state (kIn w) (tableStep w) _ (tableStateOk w q) q inputs out (layout-ok w ok) e) ∙ (unfold ran stops in refl) in
+        omega arith
+    go true true e k z =
+        let r : R .refusal ≡ 12 = ap (λ (x : Run). x .refusal) (run-short (kIn w) (tableStep w) _ (tableStateOk w q) q inputs out (layout-ok w ok) e k) ∙ (unfold ran stops in refl) in
+        omega arith
+    go true false e k z = other (ltb (length (legal (kOf s) inputs)) (length inputs)) (sym agreed ∙ z)
+      where
+        good : StandsGood s sd w ok f q
+        good = stands-good s sd w ok f q (of-true e)
+
+        agreed : R .refusal ≡ refusedIf (ltb (length (legal (kOf s) inputs)) (length inputs)) 13
+        agreed =
+            ap (λ (x : Run). x .refusal) (run-goes (kIn w) (tableStep w) _ (tableStateOk w q) q inputs out (layout-ok w ok) e k)
+            ∙ (unfold ran refusedIf in (ticks-agree s sd w ok f inputs q (meant s sd w ok f q) (good .stands) (good .right) .refusal))
+
+        other : (b : Bool) → refusedIf b 13 ≡ 15 → ⊥
+        other true g = unfold refusedIf in (omega arith)
+        other false g = unfold refusedIf in (omega arith)
