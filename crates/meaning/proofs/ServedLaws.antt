@@ -59,9 +59,9 @@ module _ (s w : List ℕ) (q p : State) (cs : List Call) where
     pub mask : 0 < runFrom j .done → maskIn w (runFrom j .state .at) ≡ sheetBy j .at
 
   pub record ServedFrom : Type 0 where
-    pub unrefused : sheetTicks s (allDone s w cs) p .refusal ≡ 0
-    pub words : flatten (map doneWords (runsFrom w q cs)) ≡ sheetTicks s (allDone s w cs) p .words
-    pub consistently : (i : ℕ) → i < length (allDone s w cs) → T (consistent s (sheetTicks s (take (suc i) (allDone s w cs)) p .state .at))
+    pub unrefused : sheetTicks s (allDone s cs) p .refusal ≡ 0
+    pub words : flatten (map doneWords (runsFrom w q cs)) ≡ sheetTicks s (allDone s cs) p .words
+    pub consistently : (i : ℕ) → i < length (allDone s cs) → T (consistent s (sheetTicks s (take (suc i) (allDone s cs)) p .state .at))
     pub runs : (j : ℕ) → j < length cs → RunRightFrom j (getD cs j (record { inputs = []; out = [] }))
 
 module _ (s : List ℕ) (sd : Sound s) (w : List ℕ) (ok : T (tableOk w)) (f : T (faithful s w)) where

@@ -9,9 +9,9 @@ use lib.Seq.{length-take-le, take-suc, split-at, take-append-add, take-at, drop-
 use Rattle.meaning.specs.Sheet.{kOf}
 use Rattle.meaning.specs.Hierarchy.{consistent}
 use Rattle.meaning.specs.Tick.{fiveWords}
-use Rattle.meaning.specs.Run.{State, powerOn, Ticks, stops, tickThen, tickRefusal, ticks}
+use Rattle.meaning.specs.Run.{State, powerOn, Ticks, stops, tickThen, tickRefusal, ticks, Run}
 use Rattle.meaning.specs.SheetRun.{tickFrom, stateAfter, sheetStep, sheetTicks}
-use Rattle.meaning.specs.WholeList.{Call, doneSets, allDone, doneSet, sheetState, sheetTick, runs, runOf, stateBefore, tickWords, doneBy, RunRight, Served}
+use Rattle.meaning.specs.WholeList.{Call, doneSets, runsFrom, allDone, doneSet, sheetState, sheetTick, runOf, stateBefore, tickWords, doneBy, RunRight, Served}
 use Rattle.meaning.proofs.RunLaws.{ticksThen, tick-done, ticks-go, first-done, ticks-split, front-done, done-all, words-five}
 use Rattle.meaning.proofs.SheetTicksLaws.{five-long}
 use Rattle.meaning.proofs.ServedLaws.{runFrom, stateFrom, sheetBy, RunRightFrom, ServedFrom}
@@ -35,8 +35,11 @@ module _ (f : Call → List ℕ) where
       omega (arith, front-le n cs, length-append (f c) (flatten (map f (take n cs))), length-append (f c) (flatten (map f cs)))
 
 module _ (s w : List ℕ) (cs : List Call) (h : ServedFrom s w powerOn powerOn cs) where
+  abbrev rs : List Run
+  rs = runsFrom w powerOn cs
+
   abbrev ds : List ℕ
-  ds = allDone s w cs
+  ds = allDone s cs
 
   -- ---- the sheet's ticks on the first i done sets, and the tick after them
 
@@ -95,7 +98,7 @@ module _ (s w : List ℕ) (cs : List Call) (h : ServedFrom s w powerOn powerOn c
         ∙ ap (λ (o : Ticks). o .state) (ticks-go (kOf s) (sheetStep s) x [] q step-good)
         ∙ (unfold ticks stops in refl)
 
-  state-is : (i : ℕ) → i ≤ length ds → first i .state ≡ sheetState s w cs i
+  state-is : (i : ℕ) → i ≤ length ds → first i .state ≡ sheetState s cs i
   unfolding sheetState doneSet
   state-is zero l = unfold ticks stops in refl
   state-is (suc i) l =
@@ -104,19 +107,19 @@ module _ (s w : List ℕ) (cs : List Call) (h : ServedFrom s w powerOn powerOn c
   -- ---- run by run
 
   -- the sheet's state after runs 0 to j
-  by-is : (j : ℕ) → sheetBy s w powerOn powerOn cs j ≡ sheetState s w cs (doneBy s w cs j)
+  by-is : (j : ℕ) → sheetBy s w powerOn powerOn cs j ≡ sheetState s cs (doneBy s cs j)
   unfolding sheetBy doneBy allDone
   by-is j =
       ap (λ (l : List ℕ). sheetTicks s l powerOn .state) (sym (front-of (doneSets (kOf s)) (suc j) cs))
-      ∙ state-is (doneBy s w cs j) (front-le (doneSets (kOf s)) (suc j) cs)
+      ∙ state-is (doneBy s cs j) (front-le (doneSets (kOf s)) (suc j) cs)
 
-  before-is : (j : ℕ) → stateFrom s w powerOn powerOn cs j ≡ stateBefore s w cs j
-  unfolding stateFrom stateBefore runFrom runOf runs
+  before-is : (j : ℕ) → stateFrom s w powerOn powerOn cs j ≡ stateBefore rs j
+  unfolding stateFrom stateBefore runFrom runOf
   before-is zero = refl
   before-is (suc j) = refl
 
-  run-right : (j : ℕ) (c : Call) → RunRightFrom s w powerOn powerOn cs j c → RunRight s w cs j c
-  unfolding runFrom runOf runs
+  run-right : (j : ℕ) (c : Call) → RunRightFrom s w powerOn powerOn cs j c → RunRight s w cs rs j c
+  unfolding runFrom runOf
   run-right j c r =
       record {
         refusal = r .refusal;
@@ -127,13 +130,13 @@ module _ (s w : List ℕ) (cs : List Call) (h : ServedFrom s w powerOn powerOn c
         mask = λ l. r .mask l ∙ ap (λ (p : State). p .at) (by-is j);
       }
 
-  pub served-each : Served s w cs
-  unfolding sheetTick tickWords runs doneSet
+  pub served-each : Served s w cs (runsFrom w powerOn cs)
+  unfolding sheetTick tickWords doneSet
   served-each =
       record {
         unrefused = λ i l. subst (λ (p : State). tickFrom s p (getD ds i 0) .refusal ≡ 0) (state-is i (omega arith)) (tick-good i l);
         words = λ i l. ap (λ (v : List ℕ). take 5 (drop (5 * i) v)) (h .words) ∙ words-at i l
             ∙ ap (λ (p : State). fiveWords (tickFrom s p (getD ds i 0) .sets)) (state-is i (omega arith));
         consistently = λ i l. subst (λ (p : State). T (consistent s (p .at))) (state-is (suc i) l) (h .consistently i l);
-        runsRight = λ j l. run-right j _ (h .runs j l);
+        runs = λ j l. run-right j _ (h .runs j l);
       }

@@ -45,8 +45,8 @@ runsFrom t q (c ∷ cs) = let r = tableRun t q (c .inputs) (c .out) in r ∷ run
 unfoldable pub doneWords : Run → List ℕ
 doneWords r = take (5 * r .done) (r .out)
 
--- s: the sheet; t: the table; cs: the calls, the first from the fresh state
-module _ (s t : List ℕ) (cs : List Call) where
+-- the sheet s, fed what the calls cs do
+module _ (s : List ℕ) (cs : List Call) where
   -- "The done sets are the input sets of all done ticks, run after run"; the i-th of them, counted from 0
   unfoldable pub allDone : List ℕ
   allDone = flatten (map (doneSets (kOf s)) cs)
@@ -63,12 +63,15 @@ module _ (s t : List ℕ) (cs : List Call) where
   unfoldable pub sheetTick : ℕ → Tick
   sheetTick i = tickFrom s (sheetState i) (doneSet i)
 
-  -- what the runs return; run j, and the state that it gets
-  unfoldable pub runs : List Run
-  runs = runsFrom t powerOn cs
+  -- how many ticks are done when run j ends
+  unfoldable pub doneBy : ℕ → ℕ
+  doneBy j = length (flatten (map (doneSets (kOf s)) (take (suc j) cs)))
 
+-- what the runs rs, one after the other from the fresh state, returned and left
+module _ (rs : List Run) where
+  -- what run j returned, and the state that it got
   unfoldable pub runOf : ℕ → Run
-  runOf j = getD runs j (ran [] (stops 0 powerOn))
+  runOf j = getD rs j (ran [] (stops 0 powerOn))
 
   unfoldable pub stateBefore : ℕ → State
   stateBefore zero = powerOn
@@ -76,35 +79,34 @@ module _ (s t : List ℕ) (cs : List Call) where
 
   -- the five words of the i-th done tick, as its run left them
   unfoldable pub tickWords : ℕ → List ℕ
-  tickWords i = take 5 (drop (5 * i) (flatten (map doneWords runs)))
+  tickWords i = take 5 (drop (5 * i) (flatten (map doneWords rs)))
 
-  -- how many ticks are done when run j ends
-  unfoldable pub doneBy : ℕ → ℕ
-  doneBy j = length (flatten (map (doneSets (kOf s)) (take (suc j) cs)))
-
+-- the runs rs of the table t on the calls cs are what the sheet s means
+module _ (s t : List ℕ) (cs : List Call) (rs : List Run) where
   -- what run j, on the call c, returns
   pub record RunRight (j : ℕ) (c : Call) : Type 0 where
-    pub refusal : runOf j .refusal ≡ refusalOf (kOf s) c
-    pub done : runOf j .done ≡ length (doneSets (kOf s) c)
+    pub refusal : runOf rs j .refusal ≡ refusalOf (kOf s) c
+    pub done : runOf rs j .done ≡ length (doneSets (kOf s) c)
     -- "a run with no done tick returns the state it got"
-    pub none : runOf j .done ≡ 0 → runOf j .state ≡ stateBefore j
+    pub none : runOf rs j .done ≡ 0 → runOf rs j .state ≡ stateBefore rs j
     -- "a run whose last done tick it is returns the sheet's readings and the number of a block with that set as its mask"
-    pub readings : 0 < runOf j .done → runOf j .state .readings ≡ sheetState (doneBy j) .readings
-    pub block : 0 < runOf j .done → runOf j .state .at < bIn t
-    pub mask : 0 < runOf j .done → maskIn t (runOf j .state .at) ≡ sheetState (doneBy j) .at
+    pub readings : 0 < runOf rs j .done → runOf rs j .state .readings ≡ sheetState s cs (doneBy s cs j) .readings
+    pub block : 0 < runOf rs j .done → runOf rs j .state .at < bIn t
+    pub mask : 0 < runOf rs j .done → maskIn t (runOf rs j .state .at) ≡ sheetState s cs (doneBy s cs j) .at
 
   pub record Served : Type 0 where
     -- the sheet "meets no 8 or 9 there"
-    pub unrefused : (i : ℕ) → i < length allDone → sheetTick i .refusal ≡ 0
+    pub unrefused : (i : ℕ) → i < length (allDone s cs) → sheetTick s cs i .refusal ≡ 0
     -- "the five words of the i-th done tick are the sets of the sheet's i-th tick"
-    pub words : (i : ℕ) → i < length allDone → tickWords i ≡ fiveWords (sheetTick i .sets)
+    pub words : (i : ℕ) → i < length (allDone s cs) → tickWords rs i ≡ fiveWords (sheetTick s cs i .sets)
     -- "the sheet's mode set after it is consistent"
-    pub consistently : (i : ℕ) → i < length allDone → T (consistent s (sheetState (suc i) .at))
-    pub runsRight : (j : ℕ) → j < length cs → RunRight j (getD cs j (record { inputs = []; out = [] }))
+    pub consistently : (i : ℕ) → i < length (allDone s cs) → T (consistent s (sheetState s cs (suc i) .at))
+    pub runs : (j : ℕ) → j < length cs → RunRight j (getD cs j (record { inputs = []; out = [] }))
 
 -- "Its sheet is any that a compile did not refuse"; "its table is the words left there, as many as the length returned";
 -- "Power-on is the fresh state"; "For every such list".
 unfoldable pub WholeList : Type 0
 WholeList =
     (s table work : List ℕ) → compile s table work .refusal ≡ 0
-    → (cs : List Call) → Served s (take (compile s table work .tableLength) (compile s table work .table)) cs
+    → let t = take (compile s table work .tableLength) (compile s table work .table) in
+    (cs : List Call) → Served s t cs (runsFrom t powerOn cs)
