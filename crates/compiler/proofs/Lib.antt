@@ -3,3 +3,4 @@ pub mod RowAfterRowLaws
 pub mod WalkSteps
 pub mod FillLaws
 pub mod CompileLaws
+pub mod ContractLaws

@@ -3,3 +3,4 @@ pub mod TableStateLaws
 pub mod BlockPlaceLaws
 pub mod RestartLaws
 pub mod TableRunLaws
+pub mod ContractLaws

@@ -164,8 +164,7 @@ fn stops(state: State, why: Refusal) -> Ran
 // The table run, on any table words, state, input sets and output words: 15, 14, 12, then tick by tick 13, then 15. A
 // refused tick leaves the state of the tick before; only the five words of each done tick are written, at 5p.
 pub fn run(table: &[u32], state: State, inputs: &[u32], out: &mut [u32]) -> Ran
-    ensures { λ r. ⌜
-        ranOf r (now (out .exit))
+    ensures { λ r. ⌜ ranOf r (now (out .exit))
         ≡ tableRun (now (table .entry)) (stateOf state) (now (inputs .entry)) (now (out .entry)) ⌝ }
 {
     if !table_ok(table) {
