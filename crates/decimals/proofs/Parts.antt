@@ -1,14 +1,15 @@
 -- A text read in parts is the text read whole; and a loop over its bytes. Assumes nothing.
 use mathlib.Core.Path.{_≡_, refl}
-use mathlib.Core.List.{List, [], _∷_, _++_}
+use mathlib.Core.List.{List, [], _∷_}
 use Prim.Native.Nat.{ℕ, _+_, _≤_, _<_}
 use native.Mathlib.Numerals.{add-one}
 use lib.ListN.{length, getD, drop, drop-of-length-le}
 use lib.Seq.{drop-cons}
 use Rattle.decimals.specs.Reading.{Reading, withByte, withText}
+use Rattle.decimals.specs.Promises.{TextParts}
 
-pub text-parts : (x : Reading) (a b : List ℕ) → withText x (a ++ b) ≡ withText (withText x a) b
-unfolding withText
+pub text-parts : TextParts
+unfolding TextParts withText
 text-parts x [] b = refl
 text-parts x (y ∷ a) b = text-parts (withByte x y) a b
 
