@@ -93,7 +93,7 @@ TEXTS = [
 
 def main():
     folder = HERE / "crates" / "refusals"
-    (folder / "stdin").write_text("".join(asked + ";" for _, asked in TEXTS))
+    (folder / "stdin").write_text(";".join(asked for _, asked in TEXTS))
     (folder / "stdout").write_text("".join(str(bench(asked.encode())) for _, asked in TEXTS))
 
 
