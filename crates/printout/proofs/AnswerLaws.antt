@@ -1,20 +1,21 @@
 -- How an answer goes: by the request, by compile, by the run. Assumes nothing.
-use mathlib.Core.Path.{_≡_, refl, sym, ap, _∙_}
+use mathlib.Core.Path.{_≡_, refl, ap, _∙_}
 use mathlib.Core.Logic.{_⊎_, inl, inr}
 use mathlib.Core.Bool.{Bool, true, false, _&&_, cond, and-false}
 use mathlib.Core.List.{List}
-use Prim.Native.Nat.{ℕ, _+_, _-_, _≤_, zero-le}
+use Prim.Native.Nat.{ℕ, _+_, _-_, _*_, _≤_, zero-le}
 use native.Mathlib.Omega.{arith}
 use lib.Dec.{eqb}
 use lib.ListN.{length, take, drop, replicate, length-take, length-replicate}
-use borrow.Author.Tests.{eq-eqb, ne-eqb}
-use Rattle.meaning.specs.Run.{powerOn, Run}
+use borrow.Author.Tests.{le-ltb, eq-eqb, ne-eqb}
+use Rattle.meaning.specs.Run.{powerOn, outputShort, Run}
 use Rattle.meaning.specs.TableRun.{tableRun}
 use Rattle.meaning.specs.Compile.{Compiled}
 use Rattle.meaning.proofs.CompiledLaws.{compile-length}
 use Rattle.meaning.proofs.Bounds.{table-run-done}
 use Rattle.decimals.specs.Request.{mostTicks, sheetLength, tickCount, requestOk, sheetAsked, inputsAsked}
 use Rattle.decimals.proofs.Requests.{accepted}
+use Rattle.printout.specs.Promises.{OutputEnough}
 use Rattle.printout.specs.Answers.{tableRoom, workRoom, Answered, onlyRefused, ranAnswer, compiledSheet, answerToSheet, answerTo}
 
 -- ---- the run
@@ -101,3 +102,7 @@ module _ (numbers out : List ℕ) where
       go true true e = sheet-few (sheetAsked numbers) (inputsAsked numbers) (inputs-few e)
       go true false e = zero-le
       go false r e = zero-le
+
+pub output-enough : OutputEnough
+unfolding OutputEnough outputShort
+output-enough numbers out e h = le-ltb (length out) (5 * length (inputsAsked numbers)) (omega (arith, inputs-few numbers out e))

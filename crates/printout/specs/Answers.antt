@@ -20,12 +20,12 @@ workRoom = 1024
 abbrev pub outputRoom : ℕ
 outputRoom = 5 * mostTicks
 
--- an answer, and the output words at its end
+-- an answer (whether there is a header, the ticks done, the refusal's number) and the output words at its end
 pub record Answered : Type 0 where
   pub answer : Answer
   pub out : List ℕ
 
--- "prints only `refused`" and the number
+-- "a refusal prints `refused` and the number", and nothing else is printed
 unfoldable pub onlyRefused : ℕ → List ℕ → Answered
 onlyRefused e out = record { answer = record { header = false; done = 0; refusal = e }; out = out }
 

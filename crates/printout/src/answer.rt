@@ -10,17 +10,19 @@ use meaning::refusal::number;
 use run::state::fresh;
 
 // The words lent to compile, for table and work list.
-const TABLE_WORDS: usize = 8192;
+const TABLE_ROOM: usize = 8192;
 
-const WORK_WORDS: usize = 1024;
+const WORK_ROOM: usize = 1024;
 
-// Whether there is a header with the lines of the ticks done; how many these are; the refusal's number (with a header 0 is none).
+// Whether there is a header with the lines of the ticks done; how many these are; the refusal's number: with a header 0 is none,
+// without one it is the whole answer.
 pub struct Answer {
     pub header: bool,
     pub done: usize,
     pub refusal: u32,
 }
 
+// Only `refused` and a number.
 fn only_refused(n: u32) -> Answer
     ensures { λ r. ⌜ ((out : List ℕ) → record { answer = r; out = out } ≡ onlyRefused n out) ⌝ }
 {
@@ -50,8 +52,8 @@ fn compile_and_run(sheet: &[u32], inputs: &[u32], out: &mut [u32]) -> Answer
     ensures { λ r. ⌜ record { answer = r; out = now (out .exit) }
         ≡ answerToSheet (now (sheet .entry)) (now (inputs .entry)) (now (out .entry)) ⌝ }
 {
-    let mut table = [0u32; TABLE_WORDS];
-    let mut work = [0u32; WORK_WORDS];
+    let mut table = [0u32; TABLE_ROOM];
+    let mut work = [0u32; WORK_ROOM];
     let c = compiler::compile(sheet, &mut table, &mut work);
     let why = c.refusal;
     if number(why) != 0 {
@@ -61,7 +63,7 @@ fn compile_and_run(sheet: &[u32], inputs: &[u32], out: &mut [u32]) -> Answer
     run_table(&table[..words], inputs, out)
 }
 
-// The answer to the numbers of a text that is one of decimals, or is not. The words of the ticks done go to out.
+// The answer to the numbers of a text; good: it is one of decimals. The words of the ticks done go to out.
 pub fn answer_to(good: bool, numbers: &[u32], out: &mut [u32]) -> Answer
     ensures { λ r. ⌜ record { answer = r; out = now (out .exit) } ≡ answerTo good (now (numbers .entry)) (now (out .entry)) ⌝ }
 {

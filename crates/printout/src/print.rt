@@ -28,6 +28,7 @@ fn tick_row(out: &[u32], i: usize) -> [u32; 6]
     ]
 }
 
+// The line of tick i.
 fn print_tick(out: &[u32], i: usize)
     requires { ⌜ (5 * i + 5 ≤ length (now out)) × (length (now out) ≤ outputRoom) ⌝ }
 {
@@ -49,6 +50,7 @@ fn print_ticks(out: &[u32], done: usize)
     }
 }
 
+// The header and the ticks, if there is a header; the refusal, if there is none or it is not 0.
 pub fn print_answer(a: Answer, out: &[u32])
     requires { ⌜ (5 * a .done ≤ length (now out)) × (length (now out) ≤ outputRoom) ⌝ }
 {

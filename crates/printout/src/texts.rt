@@ -1,6 +1,5 @@
 // Texts on standard input, and the answer to each on standard output.
 ghost use mathlib.Core.Path.{_≡_};
-ghost use Prim.Native.Nat.{_≤_};
 ghost use lib.ListN.{length};
 ghost use Rattle.decimals.specs.Reading.{Fits, readingOf, begun, withGap};
 ghost use Rattle.decimals.specs.Request.{mostNumbers};
@@ -16,7 +15,7 @@ use decimals::request::MOST_NUMBERS;
 use decimals::request::MOST_TICKS;
 
 // Five output words for each tick.
-const OUTPUT_WORDS: usize = 5 * MOST_TICKS as usize;
+const OUTPUT_ROOM: usize = 5 * MOST_TICKS as usize;
 
 // A text ends where the input ends; or at a byte, too.
 pub enum TextEnd {
@@ -24,6 +23,7 @@ pub enum TextEnd {
     Byte(u8),
 }
 
+// A byte that ends a text.
 fn ends_text(end: TextEnd, byte: u8) -> bool
     ensures { λ r. ⌜ r ≡ endsText end byte ⌝ }
 {
@@ -35,7 +35,7 @@ fn ends_text(end: TextEnd, byte: u8) -> bool
 
 // The answer to a text that is read, and ends here.
 fn answer_read(x: Reader, numbers: &mut [u32], out: &mut [u32]) -> Answer
-    requires { ⌜ x .count ≤ length (now numbers) ⌝ }
+    requires { ⌜ Fits mostNumbers (readingOf x (now numbers)) ⌝ }
     ensures { λ r. ⌜ record { answered = record { answer = r; out = now (out .exit) }; words = now (numbers .exit) }
         ≡ answerRead (readingOf x (now (numbers .entry))) (now (out .entry)) ⌝ }
 {
@@ -49,12 +49,13 @@ fn next_text(x: Reader, numbers: &mut [u32]) -> Reader
     requires { ⌜ Fits mostNumbers (readingOf x (now numbers)) ⌝ }
     ensures { λ r. ⌜ readingOf r (now (numbers .exit)) ≡ begun (withGap (readingOf x (now (numbers .entry))) .words) ⌝ }
 {
-    let mut out = [0u32; OUTPUT_WORDS];
+    let mut out = [0u32; OUTPUT_ROOM];
     let a = answer_read(x, numbers, &mut out);
     print_answer(a, &out);
     start()
 }
 
+// A byte of the input: it ends a text, or is one of it.
 fn after_byte(x: Reader, end: TextEnd, byte: u8, numbers: &mut [u32]) -> Reader
     requires { ⌜ Fits mostNumbers (readingOf x (now numbers)) ⌝ }
     ensures { λ r. ⌜ readingOf r (now (numbers .exit)) ≡ afterByte end (readingOf x (now (numbers .entry))) byte ⌝ }
@@ -65,6 +66,7 @@ fn after_byte(x: Reader, end: TextEnd, byte: u8, numbers: &mut [u32]) -> Reader
     with_byte(x, byte, numbers)
 }
 
+// A part of the input.
 fn after_part(x: Reader, end: TextEnd, part: &[u8], numbers: &mut [u32]) -> Reader
     requires { ⌜ Fits mostNumbers (readingOf x (now numbers)) ⌝ }
     ensures { λ r. ⌜ readingOf r (now (numbers .exit)) ≡ afterPart end (readingOf x (now (numbers .entry))) (now (part .entry)) ⌝ }

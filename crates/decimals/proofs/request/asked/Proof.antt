@@ -48,4 +48,5 @@ returns-2 c = sym (asked-ok _ (ok (c .before .before)))
 pub asked-spec : {M : Type 1} → statement M
 asked-spec =
     tie.close
-    (tie.spec request-ok-requires returns shared-slice-read-words cast-words add-t7 mul-t8 shared-slice-read-t6 cast-t10 returns-2)
+    (tie.spec request-ok-requires returns shared-slice-read-words cast-words add-t7 mul-t8 shared-slice-read-t6
+    cast-t10 returns-2)

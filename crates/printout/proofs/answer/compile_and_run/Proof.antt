@@ -1,4 +1,4 @@
--- `printout::answer::compile_and_run` meets its contract. Assumes nothing.
+-- `printout::answer::compile_and_run` meets its contract: compile refuses, or its table is run. Assumes nothing.
 use borrow.Author.Needs.{needs}
 use mathlib.Core.Path.{_≡_, sym, _∙_}
 use mathlib.Core.List.{[]}
@@ -72,16 +72,6 @@ returns-2 c =
 pub compile-and-run-spec : {M : Type 1} → statement M
 compile-and-run-spec =
     tie.close
-    (tie.spec
-    slice-aggregate-compile
-    slice-aggregate-compile-2
-    compile-requires
-    number-requires
-    number-requires-2
-    only-refused-requires
-    returns
-    array-share-prefix-table
-    slice-aggregate-run-table
-    run-table-requires
-    same-length
+    (tie.spec slice-aggregate-compile slice-aggregate-compile-2 compile-requires number-requires number-requires-2
+    only-refused-requires returns array-share-prefix-table slice-aggregate-run-table run-table-requires same-length
     returns-2)

@@ -29,10 +29,5 @@ returns c = search needs
 pub print-tick-spec : {M : Type 1} → statement M
 print-tick-spec =
     tie.close
-    (tie.spec
-    tick-row-requires
-    put-line-requires
-    array-share-prefix-line
-    slice-aggregate-write-all
-    write-all-requires
+    (tie.spec tick-row-requires put-line-requires array-share-prefix-line slice-aggregate-write-all write-all-requires
     returns)

@@ -63,21 +63,5 @@ returns c =
 pub tick-row-spec : {M : Type 1} → statement M
 tick-row-spec =
     tie.close
-    (tie.spec
-    mul-at
-    cast-t4
-    mul-t5
-    shared-slice-read-t7
-    add-t8
-    mul-t9
-    shared-slice-read-t11
-    add-t12
-    mul-t13
-    shared-slice-read-t15
-    add-t16
-    mul-t17
-    shared-slice-read-t19
-    add-t20
-    mul-t21
-    shared-slice-read-t23
-    returns)
+    (tie.spec mul-at cast-t4 mul-t5 shared-slice-read-t7 add-t8 mul-t9 shared-slice-read-t11 add-t12 mul-t13
+    shared-slice-read-t15 add-t16 mul-t17 shared-slice-read-t19 add-t20 mul-t21 shared-slice-read-t23 returns)

@@ -33,11 +33,4 @@ returns-2 c =
 pub after-byte-spec : {M : Type 1} → statement M
 after-byte-spec =
     tie.close
-    (tie.spec
-    ends-text-requires
-    next-text-requires
-    same-length
-    returns
-    with-byte-requires
-    same-length-2
-    returns-2)
+    (tie.spec ends-text-requires next-text-requires same-length returns with-byte-requires same-length-2 returns-2)

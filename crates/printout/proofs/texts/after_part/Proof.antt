@@ -13,7 +13,8 @@ use Rattle.printout.proofs.texts.after_part.Tie as tie
 
 abbrev Inv-loop : tie.InvT-loop
 Inv-loop end part numbers₀ y₀ i₀ numbers y i =
-    (i ≤ length part) × (length numbers ≡ length numbers₀) × Fits mostNumbers (readingOf y numbers) × (afterPart end (readingOf y numbers) (drop i part) ≡ afterPart end (readingOf y₀ numbers₀) part)
+    (i ≤ length part) × (length numbers ≡ length numbers₀) × Fits mostNumbers (readingOf y numbers)
+    × (afterPart end (readingOf y numbers) (drop i part) ≡ afterPart end (readingOf y₀ numbers₀) part)
 
 abbrev μ-loop : tie.MeasureT-loop
 μ-loop end part numbers₀ y₀ i₀ numbers y i = length part - i
@@ -41,7 +42,12 @@ loop-again c =
     let x = readingOf (l .y) (l .numbers) in
     let byte = getD (a .part .now) (l .i) 0 in
     let e = c .before .before .after-byte .ensures in
-    (search needs, search needs, rw e (fits-after (a .end) x byte mostNumbers (l .inv .2)), ap (λ (r : Reading). afterPart (a .end) r (drop (l .i + 1) (a .part .now))) e ∙ part-turn (a .end) x (a .part .now) (l .i) (search needs) ∙ l .inv .3)
+    let on : Reading → Reading = λ r. afterPart (a .end) r (drop (l .i + 1) (a .part .now)) in (
+      search needs,
+      search needs,
+      rw e (fits-after (a .end) x byte mostNumbers (l .inv .2)),
+      ap on e ∙ part-turn (a .end) x (a .part .now) (l .i) (search needs) ∙ l .inv .3,
+    )
 
 same-length : tie.Need-same-length Inv-loop μ-loop
 same-length c = search needs
@@ -55,14 +61,5 @@ returns c =
 pub after-part-spec : {M : Type 1} → statement M
 after-part-spec =
     tie.close
-    (tie.spec
-    Inv-loop
-    μ-loop
-    loop-holds
-    shared-slice-read-after-byte
-    after-byte-requires
-    add-i
-    loop-less
-    loop-again
-    same-length
-    returns)
+    (tie.spec Inv-loop μ-loop loop-holds shared-slice-read-after-byte after-byte-requires add-i loop-less loop-again
+    same-length returns)

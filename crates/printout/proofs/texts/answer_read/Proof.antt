@@ -1,11 +1,12 @@
 -- `printout::texts::answer_read` meets its contract: the numbers counted lie within the words. Assumes nothing.
 use borrow.Author.Needs.{needs}
-use mathlib.Core.Path.{refl, sym}
+use mathlib.Core.Path.{sym}
 use Prim.Native.Nat.{_≤_}
 use native.Mathlib.Omega.{arith}
 use lib.ListN.{length}
 use lib.Seq.{length-take-le}
 use Rattle.decimals.specs.Reading.{Fits, readingOf}
+use Rattle.decimals.specs.Request.{mostNumbers}
 use Rattle.decimals.proofs.Counts.{fits-gap}
 use Rattle.printout.proofs.TextLaws.{text-answered}
 use Rattle.printout.proofs.texts.answer_read.Statement.{statement}
@@ -18,9 +19,8 @@ counted : (c : tie.After-slice-known3) → c .before .before .with-gap .result .
 counted c =
     let s = c .before .before .before .before .before .before in
     let g = c .before .before .with-gap in
-    let n = length (s .args .numbers .now) in
     let x = readingOf (s .args .x) (s .args .numbers .now) in
-    let f : Fits n (readingOf (g .result) (g .last .1 .0)) = rw (g .ensures) (fits-gap n x (record { words = refl; count = s .pre })) in
+    let f : Fits mostNumbers (readingOf (g .result) (g .last .1 .0)) = rw (g .ensures) (fits-gap mostNumbers x (s .pre)) in
     omega (arith, f .words, f .count)
 
 slice-reshare-prefix-answer-to : tie.Need-slice-reshare-prefix-answer-to
@@ -47,5 +47,5 @@ returns c =
 pub answer-read-spec : {M : Type 1} → statement M
 answer-read-spec =
     tie.close
-    (tie.spec with-gap-requires slice-reshare-prefix-answer-to slice-aggregate-answer-to answer-to-requires same-length
-    same-length-2 returns)
+    (tie.spec with-gap-requires slice-reshare-prefix-answer-to slice-aggregate-answer-to answer-to-requires
+    same-length same-length-2 returns)

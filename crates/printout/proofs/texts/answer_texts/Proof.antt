@@ -22,9 +22,4 @@ returns c = search needs
 pub answer-texts-spec : {M : Type 1} → statement M
 answer-texts-spec =
     tie.close
-    (tie.spec
-    slice-aggregate-last-text
-    last-text-requires
-    slice-aggregate-next-text
-    next-text-requires
-    returns)
+    (tie.spec slice-aggregate-last-text last-text-requires slice-aggregate-next-text next-text-requires returns)

@@ -65,20 +65,6 @@ returns-2 c = c .before .loop .inv .2
 pub last-text-spec : {M : Type 1} → statement M
 last-text-spec =
     tie.close
-    (tie.spec
-    Inv-loop
-    μ-loop
-    start-requires
-    loop-holds
-    slice-aggregate-read-full
-    read-full-requires
-    same-length
-    returns
-    array-share-prefix-buf
-    slice-aggregate-after-part
-    after-part-requires
-    sub-turns
-    loop-less
-    loop-again
-    same-length-2
-    returns-2)
+    (tie.spec Inv-loop μ-loop start-requires loop-holds slice-aggregate-read-full read-full-requires same-length
+    returns array-share-prefix-buf slice-aggregate-after-part after-part-requires sub-turns loop-less loop-again
+    same-length-2 returns-2)

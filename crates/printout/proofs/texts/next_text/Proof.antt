@@ -35,11 +35,5 @@ returns c =
 pub next-text-spec : {M : Type 1} → statement M
 next-text-spec =
     tie.close
-    (tie.spec
-    slice-aggregate-answer-read
-    answer-read-requires
-    slice-aggregate-print-answer
-    print-answer-requires
-    start-requires
-    same-length
-    returns)
+    (tie.spec slice-aggregate-answer-read answer-read-requires slice-aggregate-print-answer print-answer-requires
+    start-requires same-length returns)
