@@ -1,4 +1,4 @@
-"""Writes the texts of the program `refusals`, with a semicolon between them, and the outside interpreter's answers to them.
+"""Writes the texts of the program `refusals`, a semicolon between them, and the outside interpreter's answers.
 
     refusal_texts.py        (from the repository; shared/oracle stands beside it)
 """
@@ -22,6 +22,7 @@ def changed(words):
 
 
 def sheet(modes, k, records):
+    """The words of a sheet, by its mode rows and records."""
     words = [len(modes), k, len(records), *(word for mode in modes for word in mode)]
     offset = len(words) + 2 * len(records)
     for record in records:
@@ -31,7 +32,7 @@ def sheet(modes, k, records):
 
 
 def regions(sizes, k, records, above=()):
-    """A parallel mode, below the modes `above`, with a serial region per size; records(firsts) gives the transitions."""
+    """A parallel mode, after the modes `above`, with a serial region per size; records(firsts) are its transitions."""
     top = len(above)
     firsts = [top + 1 + len(sizes) + sum(sizes[:r]) for r in range(len(sizes))]
     modes = [*above, (2, 0, 0)] + [(1, top, first) for first in firsts]
@@ -49,10 +50,12 @@ def rings(sizes):
     return regions(sizes, len(sizes), lambda firsts: steps(sizes, firsts))
 
 
-def table_of(words):
-    """A chart whose table has 8,192 words, 154 blocks of 53, or one with an arrow and so a word more."""
-    arrows = {8192: lambda first: [], 8193: lambda first: [[first, first + 2, 1, 2, 2, 0]]}[words]
-    return regions([9, 17], 3, lambda firsts: steps([9, 17], firsts) + arrows(firsts[0]))
+def full_table(*arrows):
+    """Two rings of 9 and 17, whose table has 8,192 words in 154 blocks; each further arrow is a word more."""
+    return regions([9, 17], 3, lambda firsts: [*steps([9, 17], firsts), *arrows])
+
+
+ARROW = [3, 5, 1, 2, 2, 0]  # a short cut in the ring of 9: no set more
 
 
 def rings_left():
@@ -115,8 +118,8 @@ TEXTS = [
     ("8: ambiguous", text([4, 1, 2, 1, 0, 1, 0, 0, 0, 0, 0, 0, 0, 0, 0, 19, 4, 23, 4, 1, 2, 1, 0, 1, 3, 1, 0], 0)),
     ("9: restless", text(changed({20: 2, 21: 1, 22: 1, 23: 0}), 0)),
     ("a table of several thousand words", text(rings([4, 4, 4]), 1, 3, 7)),
-    ("a table of 8,192 words", text(table_of(8192), 1, 3, 7)),
-    ("10: one of 8,193", text(table_of(8193), 1, 3, 7)),
+    ("a table of 8,192 words", text(full_table(), 1, 3, 7)),
+    ("10: one of 8,193", text(full_table(ARROW), 1, 3, 7)),
     ("10: 1,024 sets are listed, and the table is too long", text(rings([4] * 5), 0)),
     ("11: 1,025 sets", text(rings_left(), 0)),
     ("13 at tick 2, after the lines of two ticks", E + " 4 0 1 2 0"),
@@ -134,7 +137,7 @@ def sizes_hold():
         compiled = compile_sheet(words, [0] * 400000, [0] * 4095)
         return compiled.listed, compiled.length
 
-    return (sizes(table_of(8192)) == (153, 8192) and sizes(table_of(8193)) == (153, 8193)
+    return (sizes(full_table()) == (153, 8192) and sizes(full_table(ARROW)) == (153, 8193)
             and sizes(rings([4] * 5))[0] == 1024 and sizes(rings_left())[0] == 1025)
 
 

@@ -9,7 +9,7 @@ pub const MOST_TICKS: u32 = 1024;
 
 pub const MOST_NUMBERS: usize = 2 + MOST_WORDS as usize + MOST_TICKS as usize;
 
-// What the numbers ask for: whether they are such a list, how many sheet words and how many ticks (0 where they are none).
+// Whether they are such a list, and how many sheet words and ticks they ask for: none where they are not.
 pub struct Request {
     pub ok: bool,
     pub words: usize,
@@ -30,6 +30,7 @@ fn request_ok(numbers: &[u32]) -> bool
     numbers.len() == 2 + sheet + (numbers[1 + sheet] as usize)
 }
 
+// What the numbers ask for.
 pub fn asked(numbers: &[u32]) -> Request
     ensures { λ r. ⌜ r ≡ asked (now (numbers .entry)) ⌝ }
 {
