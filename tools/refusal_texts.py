@@ -1,4 +1,4 @@
-"""Writes the texts of the program `refusals`, and the outside interpreter's answers to them.
+"""Writes the texts of the program `refusals`, a semicolon between them, and the outside interpreter's answers.
 
     refusal_texts.py        (from the repository; shared/oracle stands beside it)
 """
@@ -8,7 +8,7 @@ from pathlib import Path
 
 HERE = Path(__file__).resolve().parent.parent
 sys.path.insert(0, str(HERE.parent / "shared" / "oracle"))
-from modechart import bench  # noqa: E402
+from modechart import bench, compile_sheet  # noqa: E402
 
 EXAMPLE = [3, 1, 2, 1, 0, 1, 0, 0, 0, 0, 0, 0, 16, 4, 20, 4, 1, 2, 1, 0, 2, 1, 0, 2]
 
@@ -21,25 +21,59 @@ def changed(words):
     return [words.get(place, word) for place, word in enumerate(EXAMPLE)]
 
 
-def regions(sizes, k, records):
-    """A parallel root with a serial region per size; records(firsts) gives the transitions."""
-    firsts = [1 + len(sizes) + sum(sizes[:r]) for r in range(len(sizes))]
-    modes = [(2, 0, 0)] + [(1, 0, first) for first in firsts]
-    modes += [(0, r + 1, 0) for r, size in enumerate(sizes) for _ in range(size)]
-    rows = records(firsts)
-    words = [len(modes), k, len(rows), *(word for mode in modes for word in mode)]
-    offset = len(words) + 2 * len(rows)
-    for row in rows:
-        words += [offset, len(row)]
-        offset += len(row)
-    return words + [word for row in rows for word in row]
+def sheet(modes, k, records):
+    """The words of a sheet, by its mode rows and records."""
+    words = [len(modes), k, len(records), *(word for mode in modes for word in mode)]
+    offset = len(words) + 2 * len(records)
+    for record in records:
+        words += [offset, len(record)]
+        offset += len(record)
+    return words + [word for record in records for word in record]
+
+
+def regions(sizes, k, records, above=()):
+    """A parallel mode, after the modes `above`, with a serial region per size; records(firsts) are its transitions."""
+    top = len(above)
+    firsts = [top + 1 + len(sizes) + sum(sizes[:r]) for r in range(len(sizes))]
+    modes = [*above, (2, 0, 0)] + [(1, top, first) for first in firsts]
+    modes += [(0, top + r + 1, 0) for r, size in enumerate(sizes) for _ in range(size)]
+    return sheet(modes, k, records(firsts))
+
+
+def steps(sizes, firsts):
+    """Region r goes round, a step when event r is present, the next when it is absent."""
+    return [[first + i, first + (i + 1) % size, 1 + i % 2, r]
+            for r, (first, size) in enumerate(zip(firsts, sizes)) for i in range(size)]
 
 
 def rings(sizes):
-    """Region r goes round, a step when event r is present, the next when it is absent."""
-    return regions(sizes, len(sizes), lambda firsts: [
-        [first + i, first + (i + 1) % size, 1 + i % 2, r]
-        for r, (first, size) in enumerate(zip(firsts, sizes)) for i in range(size)])
+    return regions(sizes, len(sizes), lambda firsts: steps(sizes, firsts))
+
+
+def full_table(*arrows):
+    """Two rings of 9 and 17, whose table has 8,192 words in 154 blocks; each further arrow is a word more."""
+    return regions([9, 17], 3, lambda firsts: [*steps([9, 17], firsts), *arrows])
+
+
+ARROW = [3, 5, 1, 2, 2, 0]  # a short cut in the ring of 9: no set more
+
+
+def rings_left():
+    """Five rings of four, which have 1,024 sets, left for a mode beside them on a sixth event."""
+    return regions([4] * 5, 6, lambda firsts: steps([4] * 5, firsts) + [[2, 1, 1, 5]], above=[(1, 0, 2), (0, 0, 0)])
+
+
+def longest(ticks):
+    """A request of 2,403 sheet words: 32 modes, and 64 transitions with 16 terms each."""
+    def record(m, away, *terms):
+        return [1 + m, 1 + (m + away) % 31, *(terms * 16)[:32]]
+
+    # a step on event 0 or its absence; otherwise two or three, by event 1
+    one = [record(m, 1, 1 + m % 2, 0) for m in range(31)]
+    two = [record(m, 2, 2 - m % 2, 0, 1 + m // 2 % 2, 1) for m in range(31)]
+    three = [record(m, 3, 2 - m % 2, 0, 2 - m // 2 % 2, 1) for m in (0, 4)]
+    modes = [(1, 0, 1)] + [(0, 0, 0)] * 31
+    return text(sheet(modes, 2, one + two + three), *(t % 4 for t in range(ticks)))
 
 
 def timers(count):
@@ -84,16 +118,33 @@ TEXTS = [
     ("8: ambiguous", text([4, 1, 2, 1, 0, 1, 0, 0, 0, 0, 0, 0, 0, 0, 0, 19, 4, 23, 4, 1, 2, 1, 0, 1, 3, 1, 0], 0)),
     ("9: restless", text(changed({20: 2, 21: 1, 22: 1, 23: 0}), 0)),
     ("a table of several thousand words", text(rings([4, 4, 4]), 1, 3, 7)),
-    ("10: a table of more than 8,192 words", text(rings([4, 4, 4, 2]), 0)),
-    ("11: more than 1,024 sets", text(rings([4, 4, 4, 4, 4, 2]), 0)),
+    ("a table of 8,192 words", text(full_table(), 1, 3, 7)),
+    ("10: one of 8,193", text(full_table(ARROW), 1, 3, 7)),
+    ("10: 1,024 sets are listed, and the table is too long", text(rings([4] * 5), 0)),
+    ("11: 1,025 sets", text(rings_left(), 0)),
     ("13 at tick 2, after the lines of two ticks", E + " 4 0 1 2 0"),
     ("13 at tick 0, after the header", E + " 1 2"),
+    ("2,403 sheet words and 1,024 ticks: 3,429 numbers, served", longest(1024)),
+    ("a number more", longest(1024) + " 0"),
+    ("a last number with a line feed after it", E + " 2 0 1\n"),
+    ("a last number with the end of the input after it", E + " 2 0 1"),
 ]
 
 
+def sizes_hold():
+    """The charts above have the sets and words that their texts are named for, given room for them."""
+    def sizes(words):
+        compiled = compile_sheet(words, [0] * 400000, [0] * 4095)
+        return compiled.listed, compiled.length
+
+    return (sizes(full_table()) == (153, 8192) and sizes(full_table(ARROW)) == (153, 8193)
+            and sizes(rings([4] * 5))[0] == 1024 and sizes(rings_left())[0] == 1025)
+
+
 def main():
+    assert sizes_hold()
     folder = HERE / "crates" / "refusals"
-    (folder / "stdin").write_text("".join(asked + ";" for _, asked in TEXTS))
+    (folder / "stdin").write_text(";".join(asked for _, asked in TEXTS))
     (folder / "stdout").write_text("".join(str(bench(asked.encode())) for _, asked in TEXTS))
 
 

@@ -11,6 +11,7 @@ use borrow.Author.Tests.{lt-ltb}
 use Rattle.io.specs.Digits.{digits, glyph}
 use Rattle.decimals.specs.Numbers.{isDigit, isGap, longer, Numbers, none, closed, numbersFrom, numbersIn}
 use Rattle.decimals.specs.Printing.{digitCount, decimalOf, lineOf}
+use Rattle.decimals.specs.Promises.{ReadsBack, LineReadsBack}
 use Rattle.decimals.proofs.Steps.{digit-is, numbers-digit}
 use Rattle.decimals.proofs.Digits.{count-one, count-more}
 
@@ -57,8 +58,8 @@ pub decimal-back : (n : ℕ) → n < 2 ^ 32 → (pending : Bool) (rest : List �
 unfolding decimalOf Back
 decimal-back n small = digits-back 19 n small (omega arith)
 
-pub reads-back : (n : ℕ) → n < 2 ^ 32 → numbersIn (decimalOf n) ≡ record { good = true; list = n ∷ [] }
-unfolding numbersIn numbersFrom closed none
+pub reads-back : ReadsBack
+unfolding ReadsBack numbersIn numbersFrom closed none
 reads-back n small = rw append-nil at (decimal-back n small false [])
 
 -- ---- a line of numbers
@@ -77,6 +78,6 @@ line-back (n ∷ m ∷ ns) rest small =
     (decimal-back n (small 0) false (32 ∷ (lineOf (m ∷ ns) ++ rest))
     ∙ ap (closed true n) (line-back (m ∷ ns) rest (λ i. small (suc i))))
 
-pub line-reads-back : (ns : List ℕ) → ((i : ℕ) → getD ns i 0 < 2 ^ 32) → numbersIn (lineOf ns) ≡ record { good = true; list = ns }
-unfolding numbersIn numbersFrom before closed none
+pub line-reads-back : LineReadsBack
+unfolding LineReadsBack numbersIn numbersFrom before closed none
 line-reads-back ns small = rw (append-nil (lineOf ns), append-nil ns) at (line-back ns [] small)

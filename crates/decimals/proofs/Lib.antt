@@ -6,3 +6,4 @@ pub mod Lines
 pub mod Back
 pub mod Whole
 pub mod Counts
+pub mod Promised

@@ -1,14 +1,16 @@
 -- Bytes put into a line: a copy byte by byte, and numbers one after the other. Assumes nothing.
-use mathlib.Core.Path.{_≡_, refl, _∙_}
+use mathlib.Core.Path.{_≡_, refl, sym, ap, _∙_}
 use mathlib.Core.List.{List, [], _∷_, _++_, append-assoc}
-use Prim.Native.Nat.{ℕ, suc, _+_, _≤_, _<_}
+use Prim.Native.Nat.{ℕ, suc, _+_, _-_, _≤_, _<_}
 use native.Mathlib.Numerals.{add-one}
 use native.Mathlib.Omega.{arith}
-use lib.ListN.{length, getD, take, drop, set, length-append, drop-of-length-le}
-use lib.Seq.{length-take-le, paste, paste-suc, drop-cons, take-at, take-suc-set}
+use lib.ListN.{length, getD, take, drop, set, length-append, take-append-drop, drop-of-length-le}
+use lib.Seq.{length-take-le, paste, paste-suc, drop-cons, take-at, drop-at, drop-drop, drop-set-lt, take-suc-set}
 use Rattle.rows.specs.Over.{over}
 use Rattle.rows.proofs.OverLaws.{over-def, length-over}
-use Rattle.decimals.specs.Printing.{decimalOf, lineOf}
+use Rattle.io.specs.Counts.{Counts}
+use Rattle.meaning.specs.Lists.{overwritten}
+use Rattle.decimals.specs.Printing.{decimalOf, lineOf, Put, linePut}
 
 -- ---- the first i of the bytes ds at the place `at`
 
@@ -75,3 +77,41 @@ row-turn l row at j e c h k m n =
     let rest = drop (j + 1) row in
     let left : lineRest (drop j row) ≡ ds ++ mark rest ∷ lineRest rest = rw (drop-cons row j 0 h, add-one) (rest-cons (getD row j 0) (drop (suc j) row)) in
     rw (take-put l ds at e c k m, left, ← n) (simp append-assoc)
+
+-- the bytes after a number and the byte after it stay
+drop-put : (l ds : List ℕ) (at e c : ℕ) → e ≡ at + length ds → e < length l → drop (e + 1) (set (over l at ds) e c) ≡ drop (e + 1) l
+drop-put l ds at e c h k =
+    let p = take at l ++ ds in
+    let long : length p ≡ e = omega (arith, length-append (take at l) ds, length-take-le at l (omega arith)) in
+    let rest : drop e (over l at ds) ≡ drop e l = rw (over-def l at ds, h) (drop-at p (drop (at + length ds) l) (at + length ds) (long ∙ h)) in
+    rw (drop-set-lt (e + 1) (over l at ds) e c (omega arith), ← drop-drop 1 e (over l at ds), rest) (drop-drop 1 e l)
+
+drop-later : (l m : List ℕ) (at n : ℕ) → at ≤ n → drop at l ≡ drop at m → drop n l ≡ drop n m
+drop-later l m at n h e =
+    let same : at + (n - at) ≡ n = omega arith in
+    rw (← same, ← drop-drop (n - at) at l, e) (drop-drop (n - at) at m)
+
+pub row-rest : (l m : List ℕ) (at : ℕ) (ds : List ℕ) (e c : ℕ) → e ≡ at + length ds → e < length l → drop at l ≡ drop at m
+    → drop (e + 1) (set (over l at ds) e c) ≡ drop (e + 1) m
+row-rest l m at ds e c h k same = drop-put l ds at e c h k ∙ drop-later l m at (e + 1) (omega arith) same
+
+-- ---- the whole line put
+
+module _ (row lent line : List ℕ) (n : ℕ) where
+  pub line-put : n ≤ length line → take n line ≡ lineOf row → drop n line ≡ drop n lent
+      → record { count = n; line = line } ≡ linePut row lent
+  unfolding linePut overwritten
+  line-put h front rest =
+      let long : n ≡ length (lineOf row) = sym (length-take-le n line h) ∙ ap length front in
+      let whole : line ≡ lineOf row ++ drop (length (lineOf row)) lent =
+      sym (take-append-drop n line) ∙ rw (front, rest, long) in
+      cc
+
+  -- the bytes counted lie within the line
+  pub put-counts : record { count = n; line = line } ≡ linePut row lent → Counts n line
+  unfolding linePut overwritten
+  put-counts e =
+      let count : n ≡ length (lineOf row) = ap (λ (p : Put). p .count) e in
+      let whole : length line ≡ length (lineOf row ++ drop (length (lineOf row)) lent) = ap (λ (p : Put). length (p .line)) e in
+      let within : n ≤ length line = omega (arith, simp length-append at whole) in
+      (within, sym (length-take-le n line within))

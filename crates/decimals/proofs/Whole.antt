@@ -12,6 +12,7 @@ use lib.Seq.{take-suc-set, append-snoc}
 use borrow.Author.Tests.{le-leb, lt-leb}
 use Rattle.decimals.specs.Numbers.{isDigit, isGap, longer, Numbers, none, noNumbers, closed, numbersFrom, numbersIn}
 use Rattle.decimals.specs.Reading.{Reading, begun, refused, withGap, withByte, withText}
+use Rattle.decimals.specs.Promises.{ReadWhole}
 use Rattle.decimals.proofs.Steps.{lengthened, put, digit-fits, digit-large, gap-none, gap-put, gap-full, byte-digit, byte-gap, byte-other, numbers-digit, numbers-large, numbers-gap, numbers-other}
 
 -- the numbers that stand in the words fit there, and no digits make no number
@@ -134,11 +135,8 @@ text-reads [] x s =
     reads-gap x s none (λ y. y) (λ y t _ _. reads-none y (t .within)) refl (x .pending) refl (decLe (length (x .words)) (x .count))
 text-reads (b ∷ bs) x s = by-byte bs (text-reads bs) x s b (isDigit b) (isGap b) refl refl
 
-pub read-whole : (text words : List ℕ) →
-    let r = withGap (withText (begun words) text) in
-    let n = numbersIn text in
-    (r .good ≡ (n .good && leb (length (n .list)) (length words))) × (r .good ≡ true → take (r .count) (r .words) ≡ n .list)
-unfolding begun numbersIn
+pub read-whole : ReadWhole
+unfolding ReadWhole begun numbersIn
 read-whole text words =
     let k = text-reads text (begun words) record { within = zero-le; idle = λ _. refl } in
     (rw zero-add at (k .good), k .list)

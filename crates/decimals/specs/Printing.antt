@@ -3,7 +3,9 @@ use mathlib.Core.Bool.{cond}
 use mathlib.Core.List.{List, [], _∷_, _++_}
 use Prim.Native.Nat.{ℕ, zero, suc, _/_}
 use lib.Dec.{ltb}
+use lib.ListN.{length}
 use Rattle.io.specs.Digits.{digits}
+use Rattle.meaning.specs.Lists.{overwritten}
 
 -- how many decimal digits a number has, where that is at most suc f
 unfoldable pub digitCount : ℕ → ℕ → ℕ
@@ -19,3 +21,12 @@ unfoldable pub lineOf : List ℕ → List ℕ
 lineOf [] = 10 ∷ []
 lineOf (n ∷ []) = decimalOf n ++ 10 ∷ []
 lineOf (n ∷ m ∷ ns) = decimalOf n ++ 32 ∷ lineOf (m ∷ ns)
+
+-- bytes put into a lent line: how many, and the line after it
+pub record Put : Type 0 where
+  pub count : ℕ
+  pub line : List ℕ
+
+-- the line of a row of numbers put at the start of a lent line; later bytes stay
+unfoldable pub linePut : List ℕ → List ℕ → Put
+linePut row line = record { count = length (lineOf row); line = overwritten (lineOf row) line }

@@ -1,7 +1,8 @@
 -- A text of decimals read byte by byte into lent words. Assumes nothing.
+use mathlib.Core.Path.{_≡_}
 use mathlib.Core.Bool.{Bool, true, false, cond}
 use mathlib.Core.List.{List, [], _∷_}
-use Prim.Native.Nat.{ℕ, suc, _^_}
+use Prim.Native.Nat.{ℕ, suc, _^_, _≤_}
 use lib.Dec.{ltb}
 use lib.ListN.{length, set}
 use Rattle.decimals.specs.Numbers.{isDigit, isGap, longer}
@@ -17,6 +18,11 @@ pub record Reading : Type 0 where
 
 abbrev pub readingOf : Reader → List ℕ → Reading
 readingOf x words = record { good = x .good; pending = x .pending; value = x .value; count = x .count; words = words }
+
+-- a reading into n words, with no more numbers counted
+pub record Fits (n : ℕ) (x : Reading) : Type 0 where
+  pub words : length (x .words) ≡ n
+  pub count : x .count ≤ n
 
 -- nothing is read
 unfoldable pub begun : List ℕ → Reading

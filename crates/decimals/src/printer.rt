@@ -1,10 +1,9 @@
 // Numbers printed in decimal.
 ghost use mathlib.Core.Path.{_≡_};
 ghost use Prim.Native.Nat.{_+_, _*_, _≤_};
-ghost use lib.ListN.{length, take};
-ghost use Rattle.io.specs.Counts.{Counts};
+ghost use lib.ListN.{length};
 ghost use Rattle.rows.specs.Over.{over};
-ghost use Rattle.decimals.specs.Printing.{decimalOf, lineOf};
+ghost use Rattle.decimals.specs.Printing.{decimalOf, linePut};
 
 // A number into the line at a place; the place after it.
 fn put(line: &mut [u8], at: usize, n: u32) -> usize
@@ -23,11 +22,10 @@ fn put(line: &mut [u8], at: usize, n: u32) -> usize
     at + count
 }
 
-// The line of a row of numbers, one space between; how many bytes it has.
+// The line of a row of numbers, one space between; how many bytes it has. Later bytes stay.
 fn put_row(line: &mut [u8], row: &[u32]) -> usize
     requires { ⌜ (1 ≤ length (now row)) × (11 * length (now row) ≤ length (now line)) ⌝ }
-    ensures { λ r. ⌜ Counts r (now (line .exit)) ⌝ }
-    ensures { λ r. ⌜ take r (now (line .exit)) ≡ lineOf (now (row .entry)) ⌝ }
+    ensures { λ r. ⌜ record { count = r; line = now (line .exit) } ≡ linePut (now (row .entry)) (now (line .entry)) ⌝ }
 {
     let mut at = 0;
     let mut j = 0;
@@ -42,8 +40,7 @@ fn put_row(line: &mut [u8], row: &[u32]) -> usize
 
 // The same of six numbers.
 pub fn put_line(line: &mut [u8; 128], row: &[u32; 6]) -> usize
-    ensures { λ r. ⌜ Counts r (now (line .exit)) ⌝ }
-    ensures { λ r. ⌜ take r (now (line .exit)) ≡ lineOf (now (row .entry)) ⌝ }
+    ensures { λ r. ⌜ record { count = r; line = now (line .exit) } ≡ linePut (now (row .entry)) (now (line .entry)) ⌝ }
 {
     put_row(line, row)
 }

@@ -2,9 +2,9 @@
 // any length is read in parts.
 ghost use mathlib.Core.Path.{_≡_};
 ghost use mathlib.Core.List.{List};
-ghost use Prim.Native.Nat.{ℕ, _+_, _≤_, _<_};
+ghost use Prim.Native.Nat.{ℕ, _≤_};
 ghost use Rattle.decimals.specs.Reading.{readingOf};
-ghost use Rattle.decimals.specs.Reading.{begun, withDigit, withGap, withByte, withText};
+ghost use Rattle.decimals.specs.Reading.{begun, withDigit, withGap, withByte};
 ghost use Rattle.decimals.specs.Reading.{refused as refusedReading};
 
 // How far a text is read: whether it is one of decimals so far, whether digits are pending, the number that they make, and how many
@@ -75,7 +75,8 @@ pub fn with_gap(x: Reader, words: &mut [u32]) -> Reader
     }
 }
 
-fn with_byte(x: Reader, byte: u8, words: &mut [u32]) -> Reader
+// After a byte of the text.
+pub fn with_byte(x: Reader, byte: u8, words: &mut [u32]) -> Reader
     ensures { λ r. ⌜ readingOf r (now (words .exit)) ≡ withByte (readingOf x (now (words .entry))) byte ⌝ }
 {
     if 48 <= byte && byte <= 57 {
@@ -85,17 +86,4 @@ fn with_byte(x: Reader, byte: u8, words: &mut [u32]) -> Reader
         return with_gap(x, words);
     }
     refused(x)
-}
-
-// After the bytes of a part of the text.
-pub fn with_text(x: Reader, part: &[u8], words: &mut [u32]) -> Reader
-    ensures { λ r. ⌜ readingOf r (now (words .exit)) ≡ withText (readingOf x (now (words .entry))) (now (part .entry)) ⌝ }
-{
-    let mut y = x;
-    let mut i = 0;
-    while i < part.len() {
-        y = with_byte(y, part[i], words);
-        i += 1;
-    }
-    y
 }

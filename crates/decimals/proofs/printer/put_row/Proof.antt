@@ -1,25 +1,24 @@
 -- `decimals::printer::put_row` meets its contract. The loop's invariant: the bytes that are put, and then the line of the numbers that are
--- left, are the line. The measure is how many numbers are left. Assumes nothing.
+-- left, are the line; later bytes stay. The measure is how many numbers are left. Assumes nothing.
 use borrow.Author.Needs.{needs}
 use mathlib.Core.Path.{_≡_, refl, sym, _∙_}
 use mathlib.Core.Logic.{⊎-elim}
 use mathlib.Core.List.{[], _++_, append-nil}
 use Prim.Native.Nat.{_+_, _-_, _*_, _≤_}
 use lib.ListN.{length, take, drop, length-set}
-use lib.Seq.{length-take-le}
 use Rattle.decimals.specs.Printing.{lineOf}
-use Rattle.decimals.proofs.Lines.{lineRest, mark, rest-all, rest-none, mark-more, mark-last, row-turn}
+use Rattle.decimals.proofs.Lines.{lineRest, mark, rest-all, rest-none, mark-more, mark-last, row-turn, row-rest, line-put}
 use Rattle.decimals.proofs.printer.put_row.Statement.{statement}
 use Rattle.decimals.proofs.printer.put_row.Tie as tie
 
 abbrev Inv-loop : tie.InvT-loop
-Inv-loop line₀ row at₀ j₀ line at j = (j ≤ length row) × (at ≤ 11 * j) × (length line ≡ length line₀) × (take at line ++ lineRest (drop j row) ≡ lineOf row)
+Inv-loop line₀ row at₀ j₀ line at j = (j ≤ length row) × (at ≤ 11 * j) × (length line ≡ length line₀) × (take at line ++ lineRest (drop j row) ≡ lineOf row) × (drop at line ≡ drop at line₀)
 
 abbrev μ-loop : tie.MeasureT-loop
 μ-loop line₀ row at₀ j₀ line at j = length row - j
 
 loop-holds : tie.Need-loop-holds Inv-loop μ-loop
-loop-holds c = (search needs, search needs, refl, rest-all (c .before .before .args .row .now) (c .before .before .pre .0))
+loop-holds c = (search needs, search needs, refl, rest-all (c .before .before .args .row .now) (c .before .before .pre .0), refl)
 
 mul-put : tie.Need-mul-put Inv-loop μ-loop
 mul-put c = search needs
@@ -58,6 +57,7 @@ loop-again c =
       search needs,
       simp length-set (search needs),
       rw (p .ensures .0) (turn ∙ l .inv .3),
+      rw (p .ensures .0) (row-rest (l .line) _ (l .at) _ (p .result) (c .if1 .line) (p .ensures .1) (search needs) (l .inv .4)),
     )
 
 same-length : tie.Need-same-length Inv-loop μ-loop
@@ -68,8 +68,8 @@ returns c =
     let l = c .before .loop in
     let row = c .before .before .before .before .args .row .now in
     let left : lineRest (drop (l .j) row) ≡ [] = rest-none row (l .j) (search needs) in
-    let short : l .at ≤ length (l .line) = search needs in
-    ((short, sym (length-take-le (l .at) (l .line) short)), sym (append-nil (take (l .at) (l .line))) ∙ rw left at (l .inv .3))
+    let bytes : take (l .at) (l .line) ≡ lineOf row = sym (append-nil (take (l .at) (l .line))) ∙ rw left at (l .inv .3) in
+    line-put row _ (l .line) (l .at) (search needs) bytes (l .inv .4)
 
 pub put-row-spec : {M : Type 1} → statement M
 put-row-spec =

@@ -33,5 +33,4 @@ returns-3 c = rw add-one (sym (gap-put _ (not-false _ (c .before .if1 .left)) (s
 
 pub with-gap-spec : {M : Type 1} → statement M
 with-gap-spec =
-    tie.close
-    (tie.spec returns refused-requires returns-2 mul-words slice-write-words add-t5 same-length returns-3)
+    tie.close (tie.spec returns refused-requires returns-2 mul-words slice-write-words add-t5 same-length returns-3)

@@ -1,0 +1,4 @@
+pub mod Rows
+pub mod AnswerLaws
+pub mod TextLaws
+pub mod Promised
