@@ -1,4 +1,4 @@
-// The charts of the peer's own timing program.
+// The charts of the peer's own timing program, and one that waits.
 use modechart::gensheet as g;
 use modechart::rng::Rng;
 use modechart::*;
@@ -34,6 +34,19 @@ fn chain() -> Vec<u32> {
     d.words()
 }
 
+// Six timers that run for long: nearly every tick stays in its block.
+fn waiting() -> Vec<u32> {
+    let mut d = g::regions(&[2; 6], 0);
+    for i in 0..6u32 {
+        let (a, b) = (7 + 2 * i, 8 + 2 * i);
+        d.trans.push((a, b, vec![(0, 1000 + 7 * i)]));
+        d.trans.push((b, a, vec![(0, 1000 + 11 * i)]));
+    }
+    d.words()
+}
+
+// Rows that show the loss of what no contract sees: the hints of listed sets, compile on rings; the plan's hits, sheet run and
+// compile on event rings; the test for a tick that stays in its block, table run on the chart that waits.
 pub fn charts(large: bool) -> Vec<(&'static str, Vec<u32>)> {
     let example = vec![3, 1, 2, 1, 0, 1, 0, 0, 0, 0, 0, 0, 16, 4, 20, 4, 1, 2, 1, 0, 2, 1, 0, 2];
     let mut charts = vec![
@@ -43,6 +56,7 @@ pub fn charts(large: bool) -> Vec<(&'static str, Vec<u32>)> {
         ("event rings, k = 6", g::rings(&[4, 4, 4, 4, 4, 2]).words()),
         ("timer rings, k = 0", g::timer_rings(&[4, 4, 4, 4, 4, 3], 0).words()),
         ("timer rings, k = 3", g::timer_rings(&[4, 4, 4, 4, 4, 3], 3).words()),
+        ("waiting, k = 0", waiting()),
     ];
     if large {
         charts.push(("timer rings, k = 6", g::timer_rings(&[4, 4, 4, 4, 4, 3], 6).words()));
