@@ -6,11 +6,11 @@ use mathlib.Core.List.{List, [], _∷_}
 use Prim.Native.Nat.{ℕ, suc, _≤_, _<_, zero-le}
 use native.Mathlib.Nat.{le-trans, le-of-eq, le-of-lt, lt-of-le-of-lt, eq-zero-or-pos}
 use native.Mathlib.Omega.{arith}
-use lib.Dec.{T, eqb, leb, ltb, eqb→eq, ltb→lt, leb→le}
+use lib.Dec.{T, eqb, ltb, eqb→eq, ltb→lt, leb→le}
 use lib.ListN.{length}
 use borrow.Author.Tests.{not-false, eq-eqb, ne-eqb}
 use Rattle.sets.specs.Sets.{every}
-use Rattle.sets.proofs.Tests.{of-true, and-l, and-r}
+use Rattle.sets.proofs.Tests.{of-true, and-l, and-r, above-not}
 use Rattle.sets.proofs.Facts.{every-e}
 use Rattle.meaning.specs.Sheet.{nOf, kOf, tOf, kind, parent, first, isChild, source, endBefore, termCount}
 use Rattle.meaning.specs.Check.{headOk, modeOk, modesOk, pairOk, pairsOk, endOk, endsOk, kindOk, termOk, termsOk, distinctOk, sheetRefusal}
@@ -113,7 +113,4 @@ module _ (s : List ℕ) (h : Sound s) where
 -- there is no kind of term above 7
 pub kind-none : (s : List ℕ) (t j c : ℕ) → 7 < c → kindOk s t j c ≡ false
 unfolding kindOk
-kind-none s t j c l = rw (not-kind 0 tt, not-kind 1 tt, not-kind 2 tt, not-kind 3 tt, not-kind 4 tt, not-kind 5 tt, not-kind 6 tt, not-kind 7 tt)
-  where
-    not-kind : (d : ℕ) → T (leb d 7) → eqb c d ≡ false
-    not-kind d k = ne-eqb c d (λ e. omega (arith, leb→le d 7 k))
+kind-none s t j c l = let none = above-not 7 c in rw (none 0 l tt, none 1 l tt, none 2 l tt, none 3 l tt, none 4 l tt, none 5 l tt, none 6 l tt, none 7 l tt)

@@ -6,10 +6,10 @@ use mathlib.Core.List.{List}
 use Prim.Native.Nat.{ℕ, zero, suc, _+_, _^_, _≤_, _<_, zero-le}
 use native.Mathlib.Nat.{le-refl, le-trans, lt-of-lt-of-le, lt-of-le-of-lt, not-suc-le-zero, le-of-suc-le-suc, eq-zero-or-pos}
 use native.Mathlib.Omega.{arith}
-use lib.Dec.{T, eqb, leb, ltb, lt→ltb, leb→le}
-use borrow.Author.Tests.{eqb-true, eqb-false, ne-eqb}
+use lib.Dec.{T, eqb, ltb, lt→ltb}
+use borrow.Author.Tests.{eqb-true, eqb-false}
 use Rattle.sets.specs.Sets.{has, minus, single, size, someIn}
-use Rattle.sets.proofs.Tests.{is-false, of-true, and-l, and-r, and-i, or-e, or-l, or-r}
+use Rattle.sets.proofs.Tests.{is-false, of-true, and-l, and-r, and-i, or-e, or-l, or-r, above-not}
 use Rattle.sets.proofs.Membership.{has-none, has-union, has-minus, setOf-lt}
 use Rattle.sets.proofs.Facts.{setOf-e, setOf-i, those-e, those-i, someIn-e, someIn-i, size-le, size-lt}
 use Rattle.sets.proofs.Those.{those-lt}
@@ -364,7 +364,4 @@ not-due s sd d i x e t r n =
 -- no term of a kind above 6 holds: an "or" is none
 pub holds-none : (s : List ℕ) (i : ℕ) (z : TickSets) (c v : ℕ) → 6 < c → holds s i z c v ≡ false
 unfolding holds
-holds-none s i z c v l = rw (not-kind 1 tt, not-kind 2 tt, not-kind 3 tt, not-kind 4 tt, not-kind 5 tt, not-kind 6 tt)
-  where
-    not-kind : (d : ℕ) → T (leb d 6) → eqb c d ≡ false
-    not-kind d k = ne-eqb c d (λ e. omega (arith, leb→le d 6 k))
+holds-none s i z c v l = let none = above-not 6 c in rw (none 1 l tt, none 2 l tt, none 3 l tt, none 4 l tt, none 5 l tt, none 6 l tt)

@@ -2,18 +2,18 @@
 -- what terms that speak of events only do not look at. Assumes nothing.
 use mathlib.Core.Path.{_≡_, refl, sym, ap, ap₂, _∙_, subst}
 use mathlib.Core.Logic.{_⊎_, inl, inr, ⊎-elim}
-use mathlib.Core.Bool.{Bool, true, false, not, _&&_, _||_, cond, and-true, and-assoc}
+use mathlib.Core.Bool.{Bool, true, false, _&&_, _||_, cond, and-true, and-assoc}
 use mathlib.Core.List.{List, [], _∷_, map}
 use Prim.Native.Nat.{ℕ, zero, suc, _+_, _-_, _*_, _^_, _≤_, _<_}
 use native.Mathlib.Nat.{le-of-suc-le-suc, lt-of-not-le}
 use native.Mathlib.Numerals.{add-one}
 use native.Mathlib.Omega.{arith}
-use lib.Dec.{T, eqb, leb, ltb, eqb→eq, ltb→lt, leb→le}
+use lib.Dec.{T, eqb, leb, ltb, eqb→eq, ltb→lt}
 use lib.Arith.{lt-of-le-ne}
 use lib.ListN.{getD}
 use borrow.Author.Tests.{eq-eqb, ne-eqb}
 use Rattle.sets.specs.Sets.{someIn}
-use Rattle.sets.proofs.Tests.{of-true, of-false, and-l, and-r, or-e}
+use Rattle.sets.proofs.Tests.{of-true, of-false, and-l, and-r, or-e, above-not}
 use Rattle.sets.proofs.Facts.{every-e}
 use Rattle.sets.proofs.Membership.{has-none, has-not}
 use Rattle.sets.proofs.Quantifiers.{meets-some}
@@ -22,6 +22,7 @@ use Rattle.meaning.specs.Lists.{allOf, firstOf}
 use Rattle.meaning.specs.Check.{kindOk, termOk, sheetRefusal}
 use Rattle.meaning.specs.Reaction.{TickSets, isDelay, holds, inFirst, alternativesFrom, alternatives, allHold, alternative}
 use Rattle.meaning.proofs.SheetLaws.{sound, n-le, k-le, t-le, kind-none}
+use Rattle.meaning.proofs.TickLaws.{holds-none}
 use Rattle.sheet.specs.Reading.{Record}
 use Rattle.sheet.proofs.SheetTestLaws.{placed}
 use Rattle.reaction.specs.Plan.{isEventKind, eventsOnly}
@@ -152,6 +153,10 @@ and-none [] = refl
 and-none (b ∷ l) = refl
 
 module _ (s : List ℕ) (i : ℕ) (z : TickSets) (b : i < 2 ^ 32) where
+  none-by : (c v : ℕ) → holdsBy (factsOf i z) (suc (suc (suc (suc (suc (suc (suc (suc c)))))))) v ≡ false
+  unfolding holdsBy
+  none-by c v = rw (above-not 7 (suc (suc (suc (suc (suc (suc (suc (suc c)))))))) 3 (omega arith) tt) (has-none v)
+
   holds-by : (c v : ℕ) → (c ≡ 2 → v < 32) → (c ≡ 3 → v < 2 ^ nOf s) → holdsBy (factsOf i z) c v ≡ holds s i z c v
   unfolding holdsBy holds someIn
   holds-by zero v p q = has-none v
@@ -162,10 +167,8 @@ module _ (s : List ℕ) (i : ℕ) (z : TickSets) (b : i < 2 ^ 32) where
   holds-by (suc (suc (suc (suc (suc zero))))) v p q = refl
   holds-by (suc (suc (suc (suc (suc (suc zero)))))) v p q = refl
   holds-by (suc (suc (suc (suc (suc (suc (suc zero))))))) v p q = has-none v
-  holds-by (suc (suc (suc (suc (suc (suc (suc (suc c)))))))) v p q = rw (not 1 tt, not 2 tt, not 3 tt, not 4 tt, not 5 tt, not 6 tt) (has-none v)
-    where
-      not : (d : ℕ) → T (leb d 7) → eqb (suc (suc (suc (suc (suc (suc (suc (suc c)))))))) d ≡ false
-      not d k = ne-eqb (suc (suc (suc (suc (suc (suc (suc (suc c)))))))) d (λ e. omega (arith, leb→le d 7 k))
+  holds-by (suc (suc (suc (suc (suc (suc (suc (suc c)))))))) v p q =
+      none-by c v ∙ sym (holds-none s i z (suc (suc (suc (suc (suc (suc (suc (suc c)))))))) v (omega arith))
 
   -- the alternatives of the terms from term j on, where the terms before j that belong to the first have held or not
   abbrev fromHere : ℕ → ℕ → ℕ → Bool → List Bool

@@ -2,9 +2,10 @@
 use mathlib.Core.Path.{_≡_, refl, sym, subst}
 use mathlib.Core.Logic.{_⊎_, inl, inr}
 use mathlib.Core.Bool.{Bool, true, false, not, _&&_, _||_, cond}
-use Prim.Native.Nat.{ℕ}
-use lib.Dec.{T, eqb, eqb→eq}
-use borrow.Author.Tests.{eq-eqb}
+use Prim.Native.Nat.{ℕ, _<_}
+use native.Mathlib.Omega.{arith}
+use lib.Dec.{T, eqb, leb, eqb→eq, leb→le}
+use borrow.Author.Tests.{eq-eqb, ne-eqb}
 
 -- as an equation, and back
 pub is-true : (b : Bool) → T b → b ≡ true
@@ -64,6 +65,10 @@ bool-ext false false f g = refl
 pub eqb-sym : (a b : ℕ) → eqb a b ≡ eqb b a
 eqb-sym a b =
     bool-ext (eqb a b) (eqb b a) (λ k. of-true (eq-eqb b a (sym (eqb→eq a b k)))) (λ k. of-true (eq-eqb a b (sym (eqb→eq b a k))))
+
+-- a number above m is none of the numbers up to m
+pub above-not : (m c d : ℕ) → m < c → T (leb d m) → eqb c d ≡ false
+above-not m c d l k = ne-eqb c d (λ e. omega (arith, leb→le d m k))
 
 -- a choice with the same on both sides, and two choices that agree where the test passes
 pub cond-same : {A : Type 0} (b : Bool) (x : A) → cond b x x ≡ x
