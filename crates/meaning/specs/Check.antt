@@ -76,7 +76,7 @@ module _ (s : List ℕ) where
       (cond (eqb c 4 || eqb c 5) (ltb v (nOf s))
       -- 6: "transition (by number) taken"; "transitions below T"
       (cond (eqb c 6) (ltb v (tOf s))
-      -- 7: ""or", value 0; never first, last or next to another"
+      -- 7: an "or" has "value 0; never first, last or next to another": of two the first is refused
       (cond (eqb c 7) (eqb v 0 && ltb 0 j && ltb (suc j) (termCount s t) && not (eqb (termKind s t (suc j)) 7))
       -- there is no other kind
       false)))))

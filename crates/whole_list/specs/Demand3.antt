@@ -21,7 +21,10 @@ use Rattle.recorder.specs.declared.table_run.Ran.{Ran}
 use Rattle.recorder.proofs.table_run.run.Kinds as runKinds
 use Rattle.recorder.proofs.table_run.run.Reads as runContract
 
--- a call of `compile(sheet, table, work)`: the three slices as lent, what was returned, and the slices at exit; its contract holds
+-- A call is told by its lifetimes (`Lfts`, one for each slice), the values passed (`Dens`), the struct returned, and the parameters as
+-- they are at exit (`AtExit`); the words of a slice are `now` of it.
+
+-- a call of `compile(sheet, table, work)`, whose contract holds
 pub record CompileCall : Type 0 where
   pub lifetimes : Lfts 3
   pub lent : Dens lifetimes compileKinds.ps
@@ -37,7 +40,7 @@ module _ (c : CompileCall) where
   unfoldable pub tableWords : List ℕ
   tableWords = take (c .returned .«table_length») (now (c .left .1 .0))
 
--- a call of `run(table, state, inputs, out)`: what was passed, what was returned, and the slices at exit; its contract holds
+-- a call of `run(table, state, inputs, out)`, whose contract holds
 pub record RunCall : Type 0 where
   pub lifetimes : Lfts 3
   pub passed : Dens lifetimes runKinds.ps
