@@ -224,6 +224,7 @@ SHEETS = [
     ("or with a value", 5, sheet(1, TWO, arrow(1, 2, on(0), [7, 1], off(0)))),
     ("kind 8", 5, sheet(1, TWO, arrow(1, 2, [8, 0]))),
     ("kind 2^32 - 1", 5, sheet(1, TWO, arrow(1, 2, [TOP, 0]))),
+    ("kind 8 between two good pairs", 5, sheet(1, TWO, arrow(1, 2, on(0), [8, 0], off(0)))),
     ("kind 8 after a good pair", 5, sheet(1, TWO, arrow(1, 2, on(0), [8, 0]))),
     ("kind 8 in the second record", 5, sheet(1, TWO, GO, arrow(2, 1, [8, 0]))),
     # 6: shared ends
@@ -531,9 +532,9 @@ def clocks(count, k=0):
 
 EXAMPLE = sheet(1, TWO, GO, arrow(2, 1, after(2)))
 SEVEN = sheet(2, flat(9), GO, arrow(1, 3, on(1)), *[arrow(2, t, after(1)) for t in range(3, 10)])
-UNSURE = sheet(1, THREE, GO, arrow(1, 3, on(0)))
+UNSURE = sheet(1, THREE, GO, BACK, arrow(2, 3, off(0)))                 # in the block of mode 2
 UNSURE_AT_ONCE = sheet(0, THREE, arrow(1, 2, entered(1)), arrow(1, 3, entered(1)))
-UNEASY = sheet(1, TWO, GO, arrow(2, 1, on(0)))
+UNEASY = sheet(1, THREE, GO, arrow(2, 3, off(0)), arrow(3, 2, off(0)))
 UNEASY_AT_ONCE = sheet(0, TWO, arrow(1, 2, entered(1)), arrow(2, 1, entered(1)))
 
 # a name, the refusal, the sheet, table words, work-list words

@@ -52,14 +52,11 @@ STAY = block(1, 0, cell(1))
 TICK = timer(3, 2)
 
 
-def running(timers, many, entered=8):
-    """A block of so many timers, all cells of which enter their source 3, and stay."""
-    return block(1, timers, *[cell(1, entered)] * 2 ** many)
-
-
-def clock(timers, many, words=None, at_power_on=8):
-    """Power-on, and a block that runs these timers of the table's 64 (or of the timer words given)."""
-    return table(0, [TICK] * 64 if words is None else words, block(0, 0, cell(1, at_power_on)), running(timers, many))
+def clock(timers, many, words=None, at_power_on=9):
+    """Power-on, and a block that runs these timers, so many, of the table's 64 (or of the timer words given). Each of
+    its cells stays and enters modes 0 and 3: the timers start again."""
+    return table(0, [TICK] * 64 if words is None else words, block(0, 0, cell(1, at_power_on)),
+                 block(1, timers, *[cell(1, 9)] * 2 ** many))
 
 
 # 1 runs one timer; power-on enters its source, cell 0 of block 1 does not, cell 1 (due) enters it again or not
@@ -115,6 +112,7 @@ TABLES = [
     ("block 0 begins in the pairs", 15, example({6: 8})),
     ("pairs of two blocks exchanged", 15, [1, 0, 0, 3, 10, 9, 28, 9, 19, 9] + START + STAY + STAY),
     ("pairs swapped in the example", 15, example({8: 42, 9: 27, 10: 27, 11: 15})),
+    ("block 1 stands where block 2 does", 15, [1, 0, 0, 3, 10, 9, 28, 9, 28, 9] + START + STAY + STAY),
     ("block 2 stands where block 1 does", 15, [1, 0, 0, 3, 10, 9, 19, 9, 19, 9] + START + STAY + STAY),
     ("a gap of one word after block 1", 15, example({10: 43}, 70)),
     ("a gap of one word before block 0", 15, [1, 0, 0, 2, 9, 9, 18, 9, 7] + START + STAY),
@@ -125,6 +123,7 @@ TABLES = [
     ("length of block 1 is 0", 15, example({9: 0})),
     ("length of block 1 is 2, less than a header", 15, example({9: 2, 10: 29})),
     ("the last block has a header and no cell", 15, table(0, [], START, block(1, 0))),
+    ("the last block has a header and no cell, a word short", 15, table(0, [], START, block(1, 0))[:-1]),
     ("the last block is two words", 15, table(0, [], START, [1, 0])),
     ("the last block has a cell too many", 15, table(0, [], START, block(1, 0, cell(1), cell(1)))),
     ("block 0 has a cell too many", 15, table(0, [], block(0, 0, cell(1), cell(1)), STAY)),
@@ -190,6 +189,8 @@ TABLES = [
     ("the head alone", 15, EXAMPLE[:4]),
     ("the head and the timer words", 15, EXAMPLE[:6]),
     ("the pairs' last word is missing", 15, EXAMPLE[:11]),
+    ("the only pair is missing", 15, [1, 0, 2, 1, TICK, TICK]),
+    ("the only pair's last word is missing", 15, [1, 0, 2, 1, TICK, TICK, 8]),
     ("the blocks are missing", 15, EXAMPLE[:12]),
     ("one word short", 15, example({}, 68)),
     ("one word more", 15, example({}, 70)),
