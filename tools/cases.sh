@@ -1,6 +1,6 @@
 #!/usr/bin/env bash
-# cases.sh: writes the stored cases of the conformance program and their answers: charts drawn by shared/oracle, hostile tables
-# and directed cases. The refusals of the last two are held against those that stand in their lists.
+# cases.sh: writes the stored cases of the conformance program and their answers: charts drawn by shared/oracle, hostile
+# tables and directed cases. The refusals of the last two are held against those that stand in their lists.
 set -eu
 cd "$(dirname "$0")/.."
 oracle=../shared/oracle

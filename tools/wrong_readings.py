@@ -273,35 +273,44 @@ def guard_text(node):
     return f"if {ast.unparse(node.test)}: {ast.unparse(node.body[0])}"
 
 
+def is_left_out(node):
+    """Is nothing of it changed? Texts, assertions, and what document 02 says."""
+    if isinstance(node, (ast.arguments, ast.Assert)):
+        return True
+    if isinstance(node, ast.Expr) and isinstance(node.value, ast.Constant):
+        return True
+    if isinstance(node, (ast.If, ast.IfExp)):
+        return is_elsewhere(node.test)
+    if isinstance(node, (ast.stmt, ast.BoolOp)) and not isinstance(node, (ast.Assign, ast.AugAssign)):
+        return False                            # some part of it may be document 01's
+    return isinstance(node, (ast.stmt, ast.expr)) and is_elsewhere(node)
+
+
+def replacements(node, field):
+    """What may stand in the place of an expression or a statement in a wrong reading."""
+    if isinstance(node, ast.expr):
+        if not is_elsewhere(node):
+            yield from instead(node, field in ("test", "ifs") or field == "value" and is_test(node))
+    elif isinstance(node, (ast.AugAssign, ast.Expr)):
+        yield ast.Pass()
+    elif isinstance(node, ast.Assign) and isinstance(node.targets[0], ast.Subscript):
+        yield ast.Pass()
+
+
 def edits(node, around):
-    """(owner, field, place, replacement, before, after) for each wrong reading of what is below node; `around` is the
-    expression that a changed number is shown in."""
+    """(owner, field, place, replacement, shown) for each wrong reading of what is below node; `shown` is the expression
+    in which the change is shown, for a number that around it."""
     for field, value in ast.iter_fields(node):
         many = isinstance(value, list)
         for place, child in enumerate(value if many else [value]):
-            if not isinstance(child, ast.AST) or isinstance(child, (ast.arguments, ast.Assert)):
+            if not isinstance(child, ast.AST) or is_left_out(child):
                 continue
-            if isinstance(child, (ast.If, ast.IfExp)) and is_elsewhere(child.test):
-                continue
-            if isinstance(child, (ast.expr, ast.Assign, ast.AugAssign)) and is_elsewhere(child):
-                if not isinstance(child, ast.BoolOp):
-                    continue
-            if isinstance(child, ast.Expr) and isinstance(child.value, ast.Constant):
-                continue
-            key = (node, field, place if many else None)
-            if isinstance(child, ast.expr):
-                condition = field == "test" or field == "ifs" or field == "value" and is_test(child)
-                shown = around if is_number(child) and around is not None else child
-                for new in instead(child, condition):
-                    if not (isinstance(child, ast.BoolOp) and is_elsewhere(child)):
-                        yield (*key, new, shown)
-            if isinstance(child, (ast.AugAssign, ast.Expr)) or isinstance(child, ast.Assign) and isinstance(
-                    child.targets[0], ast.Subscript):
-                yield (*key, ast.Pass(), child)
+            for new in replacements(child, field):
+                yield node, field, place if many else None, new, around if is_number(child) and around else child
             if many and place + 1 < len(value) and are_exchangeable(child, value[place + 1]):
-                yield (node, field, (place, place + 1), None, None)
-            inner = child if isinstance(child, ast.expr) and not isinstance(child, (ast.Constant, ast.Name)) else around
-            yield from edits(child, None if isinstance(child, ast.stmt) else inner)
+                yield node, field, (place, place + 1), None, None
+            shows = isinstance(child, ast.expr) and not isinstance(child, (ast.Constant, ast.Name))
+            yield from edits(child, None if isinstance(child, ast.stmt) else child if shows else around)
 
 
 def applied(edit):
