@@ -37,7 +37,7 @@ FUNCTIONS = """
     cell_at table_tick run_table""".split()
 ELSEWHERE = {"ages", "aged", "somewhere"}           # names of document 02; and what an edition says
 CALLED = ["State", "check", "compile_sheet", "run_sheet", "run_table"]
-LARGE = 1.0                 # seconds from which a part of the cases comes last, and not for forced readings
+LARGE = 1.0                 # seconds from which a part of the cases is left out for forced readings
 
 
 # ---------------------------------------------------------------- what no case can see
@@ -90,7 +90,7 @@ FORCED = {
     "the root's parent is the root, and mode 1's too": [
         ("Chart.consistent", "m != 0 and self.parent[m] not in modes", "self.parent[m] not in modes"),
         ("Chart.consistent", "m != 0", "m != 1"), ("Chart.consistent", "m != 0", "m != -1")],
-    "a set without the root is 0, then the state is fresh or has a reading too many, or lacks a member's parent": [
+    "a set without the root lacks a member's parent, or is 0; then the state is fresh or has a reading too many": [
         ("Chart.consistent", "0 not in modes", "False")],
     "only 'not 0' counts in document 01": [
         ("alternative_that_holds", "enumerate(tr.alternatives(), 1)", "enumerate(tr.alternatives(), 2)")],
@@ -110,7 +110,7 @@ FORCED = {
         ("table_layout_ok", "len(table) < 4 + T + 2 * B", "len(table) <= 4 + T + 2 * B"),
         ("table_layout_ok", "4 + T", "5 + T"), ("table_layout_ok", "2 * B", "3 * B"),
         ("table_layout_ok", "length < 3", "length <= 3"), ("table_layout_ok", "length < 3", "length < 4")],
-    "with B of 3 or more block 0 would end past the words; with fewer there is no change that matters": [
+    "with B = 1 there is no next block, with B = 2 nothing changes, and above that block 0 would end past the words": [
         ("table_layout_ok", "2 * B", "2 + B")],
     "B from 2 to 4,096 and the first offset, at most 8,260, are good timer words": [
         ("table_layout_ok", "4:4 + T", "3:4 + T"), ("table_layout_ok", "4 + T", "5 + T", 2)],
@@ -419,17 +419,17 @@ def trial(code, stored, order, limits, pipe):
         os.write(pipe, f"{how} {state['part']}".encode())
         os._exit(0)
 
-    signal.signal(signal.SIGALRM, lambda *_: end(SLOW))
+    signal.signal(signal.SIGVTALRM, lambda *_: end(SLOW))
     try:
         module = types.ModuleType("wrong")
         sys.modules["wrong"] = module
-        signal.setitimer(signal.ITIMER_REAL, 5)
+        signal.setitimer(signal.ITIMER_VIRTUAL, 5)
         exec(code, module.__dict__)
         module.parse = parsed_once(module.parse)
         for name in CALLED:
             setattr(answers, name, getattr(module, name))
         for state["part"] in order:
-            signal.setitimer(signal.ITIMER_REAL, limits[state["part"]])
+            signal.setitimer(signal.ITIMER_VIRTUAL, limits[state["part"]])
             if differs(stored[state["part"]], module.BASE):
                 end(SEEN)
     except BaseException:
@@ -452,12 +452,12 @@ def tried(code, stored, order, limits):
 
 
 def measured(stored):
-    """The seconds that each part takes."""
+    """The seconds of processor time that each part takes."""
     times = []
     for part in stored:
-        start = time.perf_counter()
+        start = time.process_time()
         assert not differs(part, answers.Edition()), "the interpreter itself does not give the stored answers"
-        times.append(time.perf_counter() - start)
+        times.append(time.process_time() - start)
     return times
 
 
