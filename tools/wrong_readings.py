@@ -4,11 +4,12 @@
     wrong_readings.py --small ..    without the cases that take the interpreter a second or more
 
 Each rule of the outside interpreter (shared/oracle/modechart.py) is broken in turn: comparisons weakened, strengthened
-and negated, numbers one more and one less, conditions made true and false, operands dropped, sets exchanged, statements
-left out, guards exchanged; and readings written by hand (readings_by_hand.txt) for what needs more. Each wrong
-interpreter answers the cases of crates/conform/stdin until a line differs from crates/conform/stdout, and is then seen;
-so is one that stops with an error or takes too long. What no case can see stands in FORCED with the reason.
-The last line counts; one that is not seen and not forced, or forced and yet seen, is named before.
+and negated, numbers one more and one less, conditions made true and false, operands dropped, sets exchanged, one name
+taken for another, statements left out, guards exchanged; and readings written by hand (readings_by_hand.txt) for what
+needs more. Each wrong interpreter answers the cases of crates/conform/stdin until a line differs from
+crates/conform/stdout, and is then seen; so is one that stops with an error or takes too long. What no case can see
+stands in FORCED with the reason. The last line counts; one that is not seen and not forced, or forced and yet seen, is
+named before.
 """
 
 import ast
@@ -46,6 +47,8 @@ LARGE = 1.0                 # seconds from which a part of the cases is left out
 OR_RULE = "value == 0 and 0 < place < len(kinds) - 1 and (kinds[place - 1] != 7) and (kinds[place + 1] != 7)"
 ORDERED = "the tests before it have answered every other number that the change lets in"
 CHECKED = "the check has refused every other kind"
+BEGIN = "react(chart, modes, readings, given, entered, exited, active, taken, edition)"
+ROUND = "Round(triggered, gave_way, eligible)"
 FORCED = {
     ORDERED: [
         ("terms_ok", "kind == 3", "kind <= 3"), ("terms_ok", "kind == 6", "kind <= 6"),
@@ -84,7 +87,7 @@ FORCED = {
         ("terms_ok", "kinds[place + 1] != 7", "kinds[place + 1] < 7")],
     "what is remembered is what would be worked out again": [("Chart.ancestors", "m not in self.up", "True")],
     "it is asked of two modes only of which neither contains the other, so neither is the root": [
-        ("Chart.meeting", "both", "True")],
+        ("Chart.meeting", "both[0] if both else None", "both[0] if True else None")],
     "completion is the same in any order, and for a mode gone through twice": [
         ("Chart.completed", "todo.pop(0)", "todo.pop(-1)"), ("Chart.completed", "c not in modes", "True")],
     "the root's parent is the root, and mode 1's too": [
@@ -92,12 +95,30 @@ FORCED = {
         ("Chart.consistent", "m != 0", "m != 1"), ("Chart.consistent", "m != 0", "m != -1")],
     "a set without the root lacks a member's parent, or is 0; then the state is fresh or has a reading too many": [
         ("Chart.consistent", "0 not in modes", "False")],
-    "only 'not 0' counts in document 01": [
-        ("alternative_that_holds", "enumerate(tr.alternatives(), 1)", "enumerate(tr.alternatives(), 2)")],
+    "document 01 asks only whether an alternative holds, whether one gives way, and how many rounds there are": [
+        ("alternative_that_holds", "enumerate(tr.alternatives(), 1)", "enumerate(tr.alternatives(), 2)"),
+        ("react", "[u for u in triggered if gives_way(chart, t, u, edition)]",
+         "[t for u in triggered if gives_way(chart, t, u, edition)]"),
+        ("react", ROUND, "Round(eligible, gave_way, eligible)"),
+        ("react", ROUND, "Round(triggered, gave_way, triggered)")],
+    "as the rounds begin, active is the current modes": [
+        ("tick", BEGIN, BEGIN.replace("modes", "active")), ("tick", BEGIN, BEGIN.replace("active", "modes"))],
+    "of the triggered the one with the outermost source does not give way": [
+        ("react", "not eligible", "not triggered")],
+    "after the walk each listed set has its block": [
+        ("compile_sheet", "len(masks)", "len(blocks)", 5), ("compile_sheet", "len(masks)", "len(blocks)", 6)],
+    "a mode that is active and not current was exited in this tick": [
+        ("react", "modes & chart.transitions[t].leaves", "active & chart.transitions[t].leaves")],
+    "the state of a refused tick is given by the tick and kept by the run, and both are the one before": [
+        ("run_sheet", "Ran(p, state, result.refusal, rounds)", "Ran(p, after, result.refusal, rounds)"),
+        ("run_table", "Ran(p, state, refusal)", "Ran(p, after, refusal)"),
+        ("table_tick", "(15, None, state)", "(15, None, after)")],
     "no mode strictly contains itself": [("gives_way", "t == u", "False")],
     "both meeting modes contain the inner source, so one is the other or contains it (DECISIONS, reading 6)": [
         ("gives_way", "conflict(chart, t, u) and chart.contains(high.source, low.source)",
-         "chart.contains(high.source, low.source)")],
+         "chart.contains(high.source, low.source)"),
+        ("gives_way", "conflict(chart, t, u)", "conflict(chart, u, u)"),
+        ("gives_way", "conflict(chart, t, u)", "conflict(chart, t, t)")],
     "block 0 has no timers, so it has no state but the fresh one": [
         ("table_state_ok", "1 <= state.place < table[3]", "0 <= state.place < table[3]")],
     "four words have no room for a pair": [
@@ -114,6 +135,10 @@ FORCED = {
         ("table_layout_ok", "2 * B", "2 + B")],
     "B from 2 to 4,096 and the first offset, at most 8,260, are good timer words": [
         ("table_layout_ok", "4:4 + T", "3:4 + T"), ("table_layout_ok", "4 + T", "5 + T", 2)],
+    "an offset other than the end of the block before has been refused": [
+        ("table_layout_ok", "offset + length", "end + length"),
+        ("table_layout_ok", "offset:offset + 3", "end:offset + 3"),
+        ("table_layout_ok", "offset + 3", "end + 3"), ("table_layout_ok", "offset + 3", "end + 3", 2)],
     "each block lies within the words": [("table_layout_ok", "end == len(table)", "end >= len(table)")],
 }
 
@@ -199,6 +224,16 @@ MOVED = {ast.Lt: -1, ast.LtE: 1, ast.Gt: 1, ast.GtE: -1}        # the bound that
 OTHER = {ast.BitOr: (ast.BitAnd, ast.Sub), ast.BitAnd: (ast.BitOr, ast.Sub), ast.Sub: (ast.BitOr, ast.BitAnd, ast.Add),
          ast.Add: (ast.Sub,), ast.Mult: (ast.Add,), ast.RShift: (ast.LShift,), ast.LShift: (ast.RShift,)}
 
+# names that may be taken for each other, where a function has both
+ALIKE = {"source": ["target"], "target": ["source"], "entered": ["exited", "active"], "exited": ["entered"],
+         "active": ["entered", "modes"], "modes": ["active"], "into": ["out", "entered"], "out": ["into"],
+         "eligible": ["triggered"], "triggered": ["eligible"], "low": ["high"], "high": ["low"], "a": ["b"], "b": ["a"],
+         "ma": ["mb"], "mb": ["ma"], "s": ["t"], "t": ["s", "u"], "u": ["t"], "parent": ["first"], "first": ["parent"],
+         "n": ["T", "k"], "k": ["T", "n"], "T": ["n", "k", "B"], "B": ["T"], "offset": ["length", "end"],
+         "end": ["offset"], "readings": ["lowered"], "lowered": ["readings"], "inputs": ["out"], "work": ["table"],
+         "state": ["after"], "mask": ["after"], "masks": ["blocks"], "blocks": ["masks"], "timers": ["cells"],
+         "kind": ["value"]}
+
 
 def is_number(node):
     return isinstance(node, ast.Constant) and type(node.value) is int
@@ -257,6 +292,22 @@ def instead(node, is_condition):
         yield ast.Constant(node.value - 1)
 
 
+def name_of(node):
+    """The name that an expression reads, or nothing."""
+    if isinstance(node, (ast.Name, ast.Attribute)) and isinstance(node.ctx, ast.Load):
+        return node.id if isinstance(node, ast.Name) else node.attr
+    return None
+
+
+def renamed(node, names):
+    """A name read, with others of the function that it may be taken for."""
+    for other in ALIKE.get(name_of(node), ()):
+        if other in names and isinstance(node, ast.Name):
+            yield ast.Name(other, ast.Load())
+        elif other in names:
+            yield ast.Attribute(node.value, other, ast.Load())
+
+
 def is_guard(node):
     return isinstance(node, ast.If) and not node.orelse and len(node.body) == 1 and isinstance(node.body[0], ast.Return)
 
@@ -286,31 +337,33 @@ def is_left_out(node):
     return isinstance(node, (ast.stmt, ast.expr)) and is_elsewhere(node)
 
 
-def replacements(node, field):
+def replacements(node, field, names):
     """What may stand in the place of an expression or a statement in a wrong reading."""
     if isinstance(node, ast.expr):
         if not is_elsewhere(node):
             yield from instead(node, field in ("test", "ifs") or field == "value" and is_test(node))
+            yield from renamed(node, names)
     elif isinstance(node, (ast.AugAssign, ast.Expr)):
         yield ast.Pass()
     elif isinstance(node, ast.Assign) and isinstance(node.targets[0], ast.Subscript):
         yield ast.Pass()
 
 
-def edits(node, around):
+def edits(node, around, names):
     """(owner, field, place, replacement, shown) for each wrong reading of what is below node; `shown` is the expression
-    in which the change is shown, for a number that around it."""
+    in which the change is shown, for a number or a name that around it."""
     for field, value in ast.iter_fields(node):
         many = isinstance(value, list)
         for place, child in enumerate(value if many else [value]):
             if not isinstance(child, ast.AST) or is_left_out(child):
                 continue
-            for new in replacements(child, field):
-                yield node, field, place if many else None, new, around if is_number(child) and around else child
+            is_small = isinstance(child, (ast.Constant, ast.Name))
+            for new in replacements(child, field, names):
+                yield node, field, place if many else None, new, around if is_small and around else child
             if many and place + 1 < len(value) and are_exchangeable(child, value[place + 1]):
                 yield node, field, (place, place + 1), None, None
-            shows = isinstance(child, ast.expr) and not isinstance(child, (ast.Constant, ast.Name))
-            yield from edits(child, None if isinstance(child, ast.stmt) else child if shows else around)
+            shows = isinstance(child, ast.expr) and not is_small
+            yield from edits(child, None if isinstance(child, ast.stmt) else child if shows else around, names)
 
 
 def applied(edit):
@@ -359,7 +412,8 @@ def readings(source, wanted):
         if wanted and name not in wanted:
             continue
         texts, keys = {ast.unparse(function)}, {}
-        for edit in list(edits(function, None)):
+        names = {getattr(node, "arg", name_of(node)) for node in ast.walk(function)}
+        for edit in list(edits(function, None, names)):
             before, after, undo = applied(edit)
             text = ast.unparse(function)
             if text not in texts:
