@@ -7,10 +7,10 @@ use Rattle.conform.specs.declared.Left.{Left}
 use Rattle.conform.specs.declared.Step.{Step}
 use Rattle.conform.specs.declared.Step.the-variants.{Next, Done}
 
--- more words for the sheet
-pub within-le : (s : Step) (few many table : ℕ) → few ≤ many → Within s few table → Within s many table
-within-le (Next left) few many table h w = (omega arith, w .1, w .2)
-within-le Done few many table h w = w
+-- more words for the sheet, and for the table
+pub within-le : (s : Step) (few many short long : ℕ) → few ≤ many → short ≤ long → Within s few short → Within s many long
+within-le (Next left) few many short long h l w = (omega arith, omega arith, w .2)
+within-le Done few many short long h l w = w
 
 -- a step that is known to go on
 pub within-next : (s : Step) (left : Left) (sheet table : ℕ) → s ≡ Next left → Within s sheet table → Within (Next left) sheet table

@@ -25,6 +25,19 @@ enum Step {
     Done,
 }
 
+// The step to the next case, after one that leaves these.
+fn next(input: Input, words: usize, lent: usize, length: usize) -> Step
+    requires { ⌜ length ≤ lent ⌝ }
+    ensures { λ r. ⌜ Within r words lent ⌝ }
+{
+    Step::Next(Left {
+        input,
+        words,
+        lent,
+        length,
+    })
+}
+
 // Reads one case and answers it. The first words of sheet and table are the current ones. A number that is no case ends the
 // program.
 fn answer(buf: &mut [u8; 65536], sheet: &mut [u32], table: &mut [u32], from: Left) -> Step
@@ -40,29 +53,17 @@ fn answer(buf: &mut [u8; 65536], sheet: &mut [u32], table: &mut [u32], from: Lef
     match kind {
         1 => {
             let read = cases::check(buf, input, sheet);
-            let input = read.input;
-            Step::Next(Left {
-                input,
-                words: read.words,
-                lent,
-                length,
-            })
+            next(read.input, read.words, lent, length)
         }
-        2 => Step::Next(Left {
-            input: cases::sheet_run(buf, input, &sheet[..words]),
+        2 => next(
+            cases::sheet_run(buf, input, &sheet[..words]),
             words,
             lent,
             length,
-        }),
+        ),
         3 => {
             let built = compile_case::compile(buf, input, &sheet[..words], table);
-            let input = built.input;
-            Step::Next(Left {
-                input,
-                words,
-                lent: built.lent,
-                length: built.length,
-            })
+            next(built.input, words, built.lent, built.length)
         }
         _ => answer_table(
             buf,
@@ -78,7 +79,7 @@ fn answer(buf: &mut [u8; 65536], sheet: &mut [u32], table: &mut [u32], from: Lef
     }
 }
 
-// A case of the current table: a run, a word written, another length.
+// A case of the current table: a run, a word written, another length, another table.
 fn answer_table(buf: &mut [u8; 65536], table: &mut [u32], kind: u32, from: Left) -> Step
     requires { ⌜ (from .lent ≤ length (now table)) × (from .length ≤ from .lent) ⌝ }
     ensures { λ r. ⌜ Within r (from .words) (length (now (table .entry))) ⌝ }
@@ -88,27 +89,26 @@ fn answer_table(buf: &mut [u8; 65536], table: &mut [u32], kind: u32, from: Left)
     let length = from.length;
     let input = from.input;
     match kind {
-        4 => Step::Next(Left {
-            input: table_case::table_run(buf, input, &table[..length]),
+        4 => next(
+            table_case::table_run(buf, input, &table[..length]),
             words,
             lent,
             length,
-        }),
-        5 => Step::Next(Left {
-            input: table_case::write_word(buf, input, &mut table[..lent]),
+        ),
+        5 => next(
+            table_case::write_word(buf, input, &mut table[..lent]),
             words,
             lent,
             length,
-        }),
+        ),
         6 => {
             let n = text::number(buf, input);
-            let input = n.input;
-            Step::Next(Left {
-                input,
-                words,
-                lent,
-                length: text::at_most(n.value, lent),
-            })
+            next(n.input, words, lent, text::at_most(n.value, lent))
+        }
+        24 => {
+            let brought = table_case::brought(buf, input, table);
+            let length = brought.words;
+            next(brought.input, words, length, length)
         }
         _ => Step::Done,
     }

@@ -1,6 +1,7 @@
 -- `conform::answer_table` meets its contract: the current table lies within the words lent, and these within the words for it, before and after.
 -- Assumes nothing.
 use lib.ListN.{length-take}
+use Rattle.conform.proofs.StepLaws.{within-le}
 use borrow.Author.Needs.{needs}
 use Rattle.conform.proofs.answer_table.Statement.{statement}
 use Rattle.conform.proofs.answer_table.Tie as tie
@@ -14,6 +15,9 @@ slice-aggregate-table-run c = simp length-take (search needs)
 table-run-requires : tie.Need-table-run-requires
 table-run-requires c κs = search needs
 
+next-requires : tie.Need-next-requires
+next-requires c κs = search needs
+
 slice-relend-prefix-write-word : tie.Need-slice-relend-prefix-write-word
 slice-relend-prefix-write-word c = search needs
 
@@ -23,33 +27,52 @@ slice-aggregate-write-word c = simp length-take (search needs)
 write-word-requires : tie.Need-write-word-requires
 write-word-requires c κs = search needs
 
+next-requires-2 : tie.Need-next-requires-2
+next-requires-2 c κs = search needs
+
 number-requires : tie.Need-number-requires
 number-requires c κs = search needs
 
 at-most-requires : tie.Need-at-most-requires
 at-most-requires c κs = search needs
 
+next-requires-3 : tie.Need-next-requires-3
+next-requires-3 c κs = search needs
+
+brought-requires : tie.Need-brought-requires
+brought-requires c κs = search needs
+
+next-requires-4 : tie.Need-next-requires-4
+next-requires-4 c κs = search needs
+
 same-length : tie.Need-same-length
 same-length c = search needs
 
 returns : tie.Need-returns
-returns c = search needs
+returns c = search (needs, within-le)
 
 same-length-2 : tie.Need-same-length-2
 same-length-2 c = search needs
 
 returns-2 : tie.Need-returns-2
-returns-2 c = search needs
+returns-2 c = search (needs, within-le)
 
 returns-3 : tie.Need-returns-3
-returns-3 c = search needs
+returns-3 c = search (needs, within-le)
+
+same-length-3 : tie.Need-same-length-3
+same-length-3 c = search needs
 
 returns-4 : tie.Need-returns-4
-returns-4 c = search needs
+returns-4 c = search (needs, within-le)
+
+returns-5 : tie.Need-returns-5
+returns-5 c = search needs
 
 pub answer-table-spec : {M : Type 1} → statement M
 answer-table-spec =
     tie.close
-    (tie.spec slice-reshare-prefix-table-run slice-aggregate-table-run table-run-requires
-    slice-relend-prefix-write-word slice-aggregate-write-word write-word-requires number-requires at-most-requires
-    same-length returns same-length-2 returns-2 returns-3 returns-4)
+    (tie.spec slice-reshare-prefix-table-run slice-aggregate-table-run table-run-requires next-requires
+    slice-relend-prefix-write-word slice-aggregate-write-word write-word-requires next-requires-2 number-requires
+    at-most-requires next-requires-3 brought-requires next-requires-4 same-length returns same-length-2 returns-2
+    returns-3 same-length-3 returns-4 returns-5)

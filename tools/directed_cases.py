@@ -1,0 +1,667 @@
+"""Cases made for one rule each: what breaks just that rule, beside a neighbour that is just good.
+
+    directed_cases.py               the cases, as the conformance program reads them, without the 0 that ends a stream
+    directed_cases.py --refusals    for each answer its word, the refusal that document 01 gives, and the case's name
+
+Tables that break the layout stand in hostile_tables.py.
+"""
+
+import sys
+
+TOP = 2 ** 32 - 1
+
+
+# ---------------------------------------------------------------- sheets
+
+def atomic(parent=0):
+    return [0, parent, 0]
+
+
+def serial(parent, first):
+    return [1, parent, first]
+
+
+def parallel(parent=0):
+    return [2, parent, 0]
+
+
+def on(event):
+    return [1, event]
+
+
+def off(event):
+    return [2, event]
+
+
+def active(*modes):
+    return [3, mask(*modes)]
+
+
+def entered(mode):
+    return [4, mode]
+
+
+def exited(mode):
+    return [5, mode]
+
+
+def taken(transition):
+    return [6, transition]
+
+
+def after(delay):
+    return [0, delay]
+
+
+OR = [7, 0]
+
+
+def arrow(source, target, *terms):
+    return [source, target] + sum(terms, [])
+
+
+def mask(*members):
+    return sum(1 << m for m in members)
+
+
+def sheet(k, modes, *arrows):
+    """The words of a sheet; T is the number of arrows."""
+    offset = 3 + 3 * len(modes) + 2 * len(arrows)
+    words = [len(modes), k, len(arrows)] + sum(modes, [])
+    for record in arrows:
+        words += [offset, len(record)]
+        offset += len(record)
+    return words + sum(arrows, [])
+
+
+def flat(count):
+    """A serial root over the atomic modes 1 to count."""
+    return [serial(0, 1)] + [atomic()] * count
+
+
+def regions(*sizes):
+    """A parallel root over serial regions: mode 1 with its modes 2, 3, .., then the next region with its own."""
+    modes = [parallel()]
+    for size in sizes:
+        region = len(modes)
+        modes += [serial(0, region + 1)] + [atomic(region)] * size
+    return modes
+
+
+def idle(count, modes):
+    """As many arrows between these modes, the first of which is no source, so that others get higher numbers."""
+    ends = [(s, t) for s in modes[1:] for t in modes if s != t]
+    return [arrow(s, t, active(0)) for s, t in ends[:count]]
+
+
+def changed(words, places):
+    return [places.get(at, word) for at, word in enumerate(words)]
+
+
+TWO = flat(2)
+THREE = flat(3)
+GO = arrow(1, 2, on(0))
+BACK = arrow(2, 1, off(0))
+LONG = [arrow(s, t, on(0)) for s in range(1, 10) for t in range(1, 10) if s != t]
+NEST = [serial(0, 1), serial(0, 2), atomic(1), atomic(1), serial(0, 5), atomic(4), atomic(4)]   # 1: 2 3, 4: 5 6
+BOTH = [serial(0, 1), parallel(), serial(1, 3), atomic(2), atomic(2), serial(1, 6), atomic(5), atomic(5), atomic()]
+# BOTH: 1 is parallel over 2 (3, 4) and 5 (6, 7); 8 is beside it
+
+# a name, the refusal, the sheet
+SHEETS = [
+    # 1: the head
+    ("no word", 1, []),
+    ("one word", 1, [1]),
+    ("two words", 1, [1, 0]),
+    ("the head alone", 1, [1, 0, 0]),
+    ("n is 1", 0, sheet(0, [atomic()])),
+    ("n is 0", 1, sheet(0, [])),
+    ("n is 32", 0, sheet(0, flat(31))),
+    ("n is 33", 1, sheet(0, flat(32))),
+    ("n is 2^32 - 1", 1, changed(sheet(0, TWO), {0: TOP})),
+    ("k is 6", 0, sheet(6, TWO, GO)),
+    ("k is 7", 1, sheet(7, TWO, GO)),
+    ("T is 64", 0, sheet(1, flat(9), *LONG[:64])),
+    ("T is 65", 1, sheet(1, flat(9), *LONG[:65])),
+    ("T is 2^32 - 1", 1, changed(sheet(0, TWO), {2: TOP})),
+    ("the last word of the modes is missing", 1, sheet(0, TWO)[:-1]),
+    ("the last word of the pairs is missing", 1, sheet(1, TWO, GO, BACK)[:15]),
+    ("the pairs are there and no record", 3, sheet(1, TWO, GO, BACK)[:16]),
+    # 2: mode rows
+    ("the root is parallel", 0, sheet(0, [parallel(), atomic()])),
+    ("the root is of kind 3", 2, sheet(0, [[3, 0, 0], atomic()])),
+    ("a mode is of kind 3", 2, sheet(0, [serial(0, 1), [3, 0, 0], atomic(1)])),
+    ("a mode's parent is the mode before", 0, sheet(0, [serial(0, 1), serial(0, 2), atomic(1), atomic()])),
+    ("a mode is its own parent", 2, sheet(0, [serial(0, 3), serial(1, 2), atomic(1), atomic()])),
+    ("a mode's parent has a higher number", 2, sheet(0, [serial(0, 2), atomic(2), serial(0, 1)])),
+    ("a mode's parent is n", 2, sheet(0, [serial(0, 1), atomic(), atomic(3)])),
+    ("a mode's parent is atomic", 2, sheet(0, [serial(0, 1), atomic(), atomic(1)])),
+    ("the root's parent is 1", 2, sheet(0, [serial(1, 1), atomic()])),
+    ("the only mode's parent is 1", 2, sheet(0, [atomic(1)])),
+    ("a serial mode without a child", 2, sheet(0, [serial(0, 0)])),
+    ("a parallel mode without a child", 2, sheet(0, [parallel()])),
+    ("an inner parallel mode with a child", 0, sheet(0, [serial(0, 1), parallel(), atomic(1)])),
+    ("an inner parallel mode without a child", 2, sheet(0, [serial(0, 1), parallel(), atomic()])),
+    ("a first mode that is the second child", 0, sheet(0, [serial(0, 2), atomic(), atomic()])),
+    ("a first mode that is a child's child", 2, sheet(0, [serial(0, 2), serial(0, 2), atomic(1)])),
+    ("a first mode that is the root itself", 2, sheet(0, [serial(0, 0), atomic()])),
+    ("a first mode that is n", 2, sheet(0, [serial(0, 2), atomic()])),
+    ("a first mode that is the parent's other child", 2, sheet(0, [serial(0, 1), serial(0, 3), atomic(1), atomic()])),
+    ("the root is atomic with a first mode", 2, sheet(0, [[0, 0, 1]])),
+    ("an atomic mode with a first mode", 2, sheet(0, [serial(0, 1), [0, 0, 1]])),
+    ("a parallel mode with a first mode", 2, sheet(0, [[2, 0, 1], atomic()])),
+    # 3: pairs
+    ("T is 0 and the sheet ends after the modes", 0, sheet(0, TWO)),
+    ("T is 0 and one word follows", 3, sheet(0, TWO) + [0]),
+    ("T is 0 and two words follow", 3, sheet(0, TWO) + [16, 4]),
+    ("two records", 0, sheet(1, TWO, GO, BACK)),
+    ("a word after the last record", 3, sheet(1, TWO, GO, BACK) + [0]),
+    ("a pair of words after the last record", 3, sheet(1, TWO, GO, BACK) + [1, 0]),
+    ("the last record is one word short", 3, sheet(1, TWO, GO, BACK)[:-1]),
+    ("pairs in the other order", 3, changed(sheet(1, TWO, GO, BACK), {12: 20, 14: 16})),
+    ("the first offset is one too high", 3, changed(sheet(1, TWO, GO, BACK), {12: 17})),
+    ("the second offset is one too low", 3, changed(sheet(1, TWO, GO, BACK), {14: 19})),
+    ("the second offset is 2^32 - 1", 3, changed(sheet(1, TWO, GO, BACK), {14: TOP})),
+    ("a gap before the first record", 3, changed(sheet(1, TWO, GO)[:14] + [0, 0] + GO, {12: 16})),
+    ("a record of 5 words", 3, sheet(1, TWO, GO + [1])),
+    ("a record of 2 words", 3, sheet(1, TWO, arrow(1, 2))),
+    ("a record of 34 words", 0, sheet(1, TWO, arrow(1, 2, on(0) * 16))),
+    ("a record of 36 words", 3, sheet(1, TWO, arrow(1, 2, on(0) * 17))),
+    ("a first record of 36 words", 3, sheet(1, TWO, arrow(1, 2, on(0) * 17), BACK)),
+    # 4: transition ends
+    ("source n - 1", 0, sheet(1, TWO, arrow(2, 1, on(0)))),
+    ("source n", 4, sheet(1, TWO, arrow(3, 1, on(0)))),
+    ("source 2^32 - 1", 4, sheet(1, TWO, arrow(TOP, 1, on(0)))),
+    ("target n", 4, sheet(1, TWO, arrow(1, 3, on(0)))),
+    ("target 2^32 - 1", 4, sheet(1, TWO, arrow(1, TOP, on(0)))),
+    ("source equal to target", 4, sheet(1, TWO, arrow(1, 1, on(0)))),
+    ("source the root", 4, sheet(1, TWO, arrow(0, 1, on(0)))),
+    ("target the root", 4, sheet(1, TWO, arrow(1, 0, on(0)))),
+    ("the root to itself", 4, sheet(1, TWO, arrow(0, 0, on(0)))),
+    ("source contains target", 4, sheet(1, NEST, arrow(1, 3, on(0)))),
+    ("target contains source", 4, sheet(1, NEST, arrow(3, 1, on(0)))),
+    ("source beside a mode that contains the target", 0, sheet(1, NEST, arrow(4, 3, on(0)))),
+    ("source inside, target beside", 0, sheet(1, NEST, arrow(3, 4, on(0)))),
+    ("source inside and target inside another", 0, sheet(1, NEST, arrow(3, 6, on(0)))),
+    ("the parallel root's children", 4, sheet(1, regions(2, 2), arrow(1, 4, on(0)))),
+    ("from one region of the parallel root into another", 4, sheet(1, regions(2, 2), arrow(2, 6, on(0)))),
+    ("from one region of an inner parallel mode into another", 4, sheet(1, BOTH, arrow(4, 7, on(0)))),
+    ("out of an inner parallel mode", 0, sheet(1, BOTH, arrow(4, 8, on(0)))),
+    ("within a region of an inner parallel mode", 0, sheet(1, BOTH, arrow(6, 7, on(0)))),
+    ("the second record's source is n", 4, sheet(1, TWO, GO, arrow(3, 1, on(0)))),
+    # 5: terms
+    ("a delay of 0", 0, sheet(1, TWO, arrow(1, 2, after(0)))),
+    ("a delay of 65,535", 0, sheet(1, TWO, arrow(1, 2, after(65535)))),
+    ("a delay of 65,536", 5, sheet(1, TWO, arrow(1, 2, after(65536)))),
+    ("a delay before another pair", 5, sheet(1, TWO, arrow(1, 2, after(1), on(0)))),
+    ("a delay after another pair", 5, sheet(1, TWO, arrow(1, 2, on(0), after(1)))),
+    ("two delays", 5, sheet(1, TWO, arrow(1, 2, after(1), after(1)))),
+    ("a delay as an alternative", 5, sheet(1, TWO, arrow(1, 2, on(0), OR, after(1)))),
+    ("event k - 1 present", 0, sheet(2, TWO, arrow(1, 2, on(1)))),
+    ("event k present", 5, sheet(2, TWO, arrow(1, 2, on(2)))),
+    ("event k - 1 absent", 0, sheet(2, TWO, arrow(1, 2, off(1)))),
+    ("event k absent", 5, sheet(2, TWO, arrow(1, 2, off(2)))),
+    ("event 0 with k = 0", 5, sheet(0, TWO, arrow(1, 2, on(0)))),
+    ("event 0 absent with k = 0", 5, sheet(0, TWO, arrow(1, 2, off(0)))),
+    ("a mask with mode n - 1", 0, sheet(1, TWO, arrow(1, 2, active(2)))),
+    ("a mask with mode n", 5, sheet(1, TWO, arrow(1, 2, active(3)))),
+    ("a mask with modes n - 1 and n", 5, sheet(1, TWO, arrow(1, 2, active(2, 3)))),
+    ("a mask of all modes", 0, sheet(1, TWO, arrow(1, 2, active(0, 1, 2)))),
+    ("a mask of 0", 5, sheet(1, TWO, arrow(1, 2, active()))),
+    ("a mask of 32 modes", 0, sheet(1, flat(31), arrow(1, 2, active(*range(32))))),
+    ("mode n - 1 entered", 0, sheet(1, TWO, arrow(1, 2, entered(2)))),
+    ("mode n entered", 5, sheet(1, TWO, arrow(1, 2, entered(3)))),
+    ("mode n - 1 exited", 0, sheet(1, TWO, arrow(1, 2, exited(2)))),
+    ("mode n exited", 5, sheet(1, TWO, arrow(1, 2, exited(3)))),
+    ("transition T - 1 taken", 0, sheet(1, TWO, GO, arrow(2, 1, taken(1)))),
+    ("transition T taken", 5, sheet(1, TWO, GO, arrow(2, 1, taken(2)))),
+    ("or between two terms", 0, sheet(1, TWO, arrow(1, 2, on(0), OR, off(0)))),
+    ("or first", 5, sheet(1, TWO, arrow(1, 2, OR, on(0)))),
+    ("or last", 5, sheet(1, TWO, arrow(1, 2, on(0), OR))),
+    ("or alone", 5, sheet(1, TWO, arrow(1, 2, OR))),
+    ("or doubled", 5, sheet(1, TWO, arrow(1, 2, on(0), OR, OR, off(0)))),
+    ("or twice, a term between", 0, sheet(1, TWO, arrow(1, 2, on(0), OR, entered(1), OR, off(0)))),
+    ("or with a value", 5, sheet(1, TWO, arrow(1, 2, on(0), [7, 1], off(0)))),
+    ("kind 8", 5, sheet(1, TWO, arrow(1, 2, [8, 0]))),
+    ("kind 2^32 - 1", 5, sheet(1, TWO, arrow(1, 2, [TOP, 0]))),
+    ("kind 8 between two good pairs", 5, sheet(1, TWO, arrow(1, 2, on(0), [8, 0], off(0)))),
+    ("kind 8 after a good pair", 5, sheet(1, TWO, arrow(1, 2, on(0), [8, 0]))),
+    ("kind 8 in the second record", 5, sheet(1, TWO, GO, arrow(2, 1, [8, 0]))),
+    # 6: shared ends
+    ("there and back", 0, sheet(1, THREE, GO, BACK)),
+    ("one source, two targets", 0, sheet(1, THREE, GO, arrow(1, 3, off(0)))),
+    ("two sources, one target", 0, sheet(1, THREE, GO, arrow(3, 2, on(0)))),
+    ("shared ends", 6, sheet(1, THREE, GO, arrow(1, 2, off(0)))),
+    ("shared ends, another record between", 6, sheet(1, THREE, GO, BACK, arrow(1, 2, after(3)))),
+    # the lowest that applies
+    ("1 and 2: k is 7, the root of kind 3", 1, sheet(7, [[3, 0, 0], atomic()])),
+    ("1 and 2: the root of kind 3, its pair missing", 1, sheet(1, [[3, 0, 0], atomic(), atomic()], GO)[:12]),
+    ("2 and 3: the root of kind 3, a word after the modes", 2, sheet(0, [[3, 0, 0], atomic()]) + [0]),
+    ("2 and 3: a first mode that is no child, a wrong offset", 2,
+     changed(sheet(1, [serial(0, 0), atomic(), atomic()], GO), {12: 15})),
+    ("2 and 4: the root of kind 3, source n", 2, sheet(1, [[3, 0, 0], atomic(), atomic()], arrow(3, 1, on(0)))),
+    ("3 and 4: a word after the last record, source n", 3, sheet(1, TWO, arrow(3, 1, on(0))) + [0]),
+    ("3 and 4: source n in record 0, an odd length in record 1", 3, sheet(1, TWO, arrow(3, 1, on(0)), GO + [1])),
+    ("3 and 5: kind 8, a word after the last record", 3, sheet(1, TWO, arrow(1, 2, [8, 0])) + [0]),
+    ("3 and 6: shared ends, a word after the last record", 3, sheet(1, TWO, GO, GO) + [0]),
+    ("4 and 5: source equal to target, kind 8", 4, sheet(1, TWO, arrow(1, 1, [8, 0]))),
+    ("4 and 5: kind 8 in record 0, source equal to target in record 1", 4,
+     sheet(1, TWO, arrow(1, 2, [8, 0]), arrow(1, 1, on(0)))),
+    ("4 and 6: shared ends, source equal to target", 4, sheet(1, TWO, arrow(1, 1, on(0)), arrow(1, 1, off(0)))),
+    ("5 and 6: shared ends, kind 8", 5, sheet(1, TWO, GO, arrow(1, 2, [8, 0]))),
+    ("5 and 6: shared ends in records 0 and 1, kind 8 in record 2", 5, sheet(1, TWO, GO, GO, arrow(2, 1, [8, 0]))),
+]
+
+# one sheet for each of 1 to 6
+BROKEN = {
+    1: sheet(7, TWO, GO), 2: sheet(1, [[3, 0, 0], atomic(), atomic()], GO), 3: sheet(1, TWO, GO) + [0],
+    4: sheet(1, TWO, arrow(3, 1, on(0))), 5: sheet(1, TWO, arrow(1, 2, [8, 0])), 6: sheet(1, TWO, GO, GO),
+}
+
+
+# ---------------------------------------------------------------- states
+
+FRESH = (0, {})
+
+# 1: 2 3, 4: 5 6; transition 3 is a delay of 0, so the modes 4 and 6 are never reached together at the end of a tick
+CLOCKS = sheet(1, regions(2, 2), arrow(2, 3, after(4)), arrow(3, 2, on(0)), arrow(5, 6, after(2)),
+               arrow(6, 5, after(0)))
+SERIES = sheet(1, NEST, arrow(2, 3, after(4)), arrow(1, 4, on(0)), arrow(4, 1, on(0)), arrow(4, 3, off(0)))
+START = mask(0, 1, 2, 4, 5)
+
+# a name, the refusal, the state as a mode set and readings
+CLOCK_STATES = [
+    ("fresh", 0, FRESH),
+    ("readings at their delays", 0, (START, {0: 4, 2: 2})),
+    ("readings of 1", 0, (START, {0: 1, 2: 1})),
+    ("a reading of its delay + 1", 14, (START, {0: 5, 2: 2})),
+    ("the second timer's reading is its delay + 1", 14, (START, {0: 4, 2: 3})),
+    ("a reading of 0 for a running timer", 14, (START, {2: 2})),
+    ("no reading for either timer", 14, (START, {})),
+    ("one timer runs", 0, (mask(0, 1, 3, 4, 5), {2: 2})),
+    ("a reading for a timer that does not run", 14, (mask(0, 1, 3, 4, 5), {0: 1, 2: 2})),
+    ("a reading for a transition with terms", 14, (mask(0, 1, 3, 4, 5), {1: 1, 2: 2})),
+    ("a set that no run reaches", 0, (mask(0, 1, 2, 4, 6), {0: 4})),
+    ("a reading for a delay of 0", 14, (mask(0, 1, 2, 4, 6), {0: 4, 3: 1})),
+    ("a reading at T", 14, (START, {0: 4, 2: 2, 4: 1})),
+    ("a reading at 31", 14, (START, {0: 4, 2: 2, 31: 1})),
+    ("a reading at 63", 14, (START, {0: 4, 2: 2, 63: 1})),
+    ("a reading of 2^32 - 1", 14, (START, {0: TOP, 2: 2})),
+    ("fresh with one reading", 14, (0, {0: 1})),
+    ("fresh with a reading at 63", 14, (0, {63: 1})),
+    ("a child of the parallel root is missing", 14, (mask(0, 1, 2), {0: 4})),
+    ("two children of a serial mode", 14, (mask(0, 1, 2, 3, 4, 5), {0: 4, 2: 2})),
+    ("no child of a serial mode", 14, (mask(0, 1, 4, 5), {2: 2})),
+    ("no root", 14, (mask(1, 2, 4, 5), {0: 4, 2: 2})),
+    ("the root alone", 14, (mask(0), {})),
+    ("a bit at n", 14, (START | mask(7), {0: 4, 2: 2})),
+    ("a bit at 31", 14, (START | mask(31), {0: 4, 2: 2})),
+]
+SERIES_STATES = [
+    ("the first modes", 0, (mask(0, 1, 2), {0: 4})),
+    ("a parent is missing", 14, (mask(0, 1, 2, 5), {0: 4})),
+    ("a lone mode without its parent", 14, (mask(0, 2), {0: 4})),
+    ("two children of the serial root", 14, (mask(0, 1, 2, 4, 5), {0: 4})),
+    ("the other child of the root", 0, (mask(0, 4, 6), {})),
+]
+FULL = sheet(0, flat(31), arrow(31, 30, after(3)), arrow(1, 31, after(1)))
+FULL_STATES = [
+    ("mode 31 with its timer", 0, (mask(0, 31), {0: 3})),
+    ("modes 30 and 31", 14, (mask(0, 30, 31), {0: 3})),
+]
+# the blocks of the table of CLOCKS: 1 is START, 2 is the set with mode 3 in place of 2
+TABLE_STATES = [
+    ("fresh", 0, FRESH),
+    ("readings at their delays", 0, (1, {0: 4, 2: 2})),
+    ("readings of 1", 0, (1, {0: 1, 2: 1})),
+    ("a reading of its delay + 1", 14, (1, {0: 5, 2: 2})),
+    ("a reading of 0 for a running timer", 14, (1, {2: 2})),
+    ("block B - 1", 0, (2, {2: 2})),
+    ("a reading for a timer that does not run", 14, (2, {0: 1, 2: 2})),
+    ("a reading for a transition with terms", 14, (2, {1: 1, 2: 2})),
+    ("a reading at T", 14, (1, {0: 4, 2: 2, 4: 1})),
+    ("a reading at 63", 14, (1, {0: 4, 2: 2, 63: 1})),
+    ("block B", 14, (3, {2: 2})),
+    ("block B without a reading", 14, (3, {})),
+    ("block 2^32 - 1", 14, (TOP, {})),
+    ("block 0 with a reading", 14, (0, {0: 1})),
+    ("block 0 with a reading at 63", 14, (0, {63: 1})),
+]
+
+# a name, the refusal, the state, the input sets, the output words; on CLOCKS, k = 1, and on its table alike
+GOOD, BAD = "good", "bad"
+RUNS = [
+    ("no input set and no output word", 0, GOOD, [], 0),
+    ("no input set, output words left as they are", 0, GOOD, [], 7),
+    ("no input set, a bad state", 14, BAD, [], 0),
+    ("5 output words a set", 0, GOOD, [0, 1], 10),
+    ("one output word less", 12, GOOD, [0, 1], 9),
+    ("one output word more", 0, GOOD, [0, 1], 11),
+    ("one set and 4 output words", 12, GOOD, [0], 4),
+    ("one set and no output word", 12, GOOD, [0], 0),
+    ("input set k - 1", 0, GOOD, [1], 5),
+    ("input set with a bit at k", 13, GOOD, [2], 5),
+    ("input set with bits at k - 1 and k", 13, GOOD, [3], 5),
+    ("input set with bit 31", 13, GOOD, [2 ** 31], 5),
+    ("the third set has a bit at k", 13, GOOD, [0, 1, 2, 0], 20),
+    ("14 and 12", 14, BAD, [0], 4),
+    ("14 and 13", 14, BAD, [2], 5),
+    ("12 and 13", 12, GOOD, [2], 4),
+    ("12 and 13, the words of the first set are there", 12, GOOD, [0, 2], 9),
+]
+
+
+# ---------------------------------------------------------------- ticks
+
+ON, OFF = 1, 0
+INNER = [serial(0, 1), serial(0, 2), atomic(1), atomic(1), atomic()]                            # 1: 2 3, 4
+DEEP = [serial(0, 1), serial(0, 2), serial(1, 3), atomic(2), atomic(2), atomic(1), atomic()]    # 1: 2 (3 4) 5, 6
+
+
+def seen_early(term):
+    """2 to 3 on the event brings the term about; 5 leaves for 6 at once, and for 7 only by a term judged too early."""
+    return sheet(1, regions(2, 3), GO_2, arrow(5, 6, on(0)), arrow(5, 7, term))
+
+
+GO_2 = arrow(2, 3, on(0))
+SIDES = [arrow(3, 4, on(0)), arrow(6, 8, on(0))]
+GIVING = [arrow(2, 3, on(0)), arrow(1, 4, on(0))]
+RESTLESS = [arrow(2, 3, on(0)), arrow(3, 2, taken(0))]
+
+# a name, the sheet, the input sets of a run from power-on, what it is refused, what compile is refused
+TICKS = [
+    # what terms are judged on
+    ("a mode left in round 1 counts as active in round 2",
+     sheet(1, regions(2, 2), GO_2, arrow(5, 6, taken(0), active(2))), [OFF, ON, ON], 0, 0),
+    ("a mode left in round 1 is no source in round 2",
+     sheet(1, flat(3), arrow(1, 2, on(0)), arrow(1, 3, taken(0))), [OFF, ON, ON], 0, 0),
+    ("entered, as the round began", seen_early(entered(3)), [OFF, ON], 0, 0),
+    ("exited, as the round began", seen_early(exited(2)), [OFF, ON], 0, 0),
+    ("taken, as the round began", seen_early(taken(0)), [OFF, ON], 0, 0),
+    ("active, as the round began", seen_early(active(3)), [OFF, ON], 0, 0),
+    ("entered, a round later", sheet(1, regions(2, 2), arrow(5, 6, entered(3)), arrow(2, 3, on(0))), [OFF, ON], 0, 0),
+    ("exited, a round later", sheet(1, regions(2, 2), arrow(5, 6, exited(2)), arrow(2, 3, on(0))), [OFF, ON], 0, 0),
+    ("taken, a round later", sheet(1, regions(2, 2), arrow(5, 6, taken(1)), arrow(2, 3, on(0))), [OFF, ON], 0, 0),
+    ("active, a round later", sheet(1, regions(2, 2), arrow(5, 6, active(3)), arrow(2, 3, on(0))), [OFF, ON], 0, 0),
+    ("entered, exited and taken are empty in the next tick",
+     sheet(2, regions(2, 2, 2, 2), GO_2, arrow(5, 6, entered(3), on(1)), arrow(8, 9, exited(2), on(1)),
+           arrow(11, 12, taken(0), on(1))), [0, 1, 2, 3], 0, 0),
+    ("some mode of the mask is active", sheet(1, regions(2, 2), arrow(2, 3, active(3, 6), on(0)),
+                                              arrow(5, 6, active(3, 5), on(0))), [OFF, ON, ON], 0, 0),
+    ("all terms of an alternative hold, or not", sheet(3, TWO, arrow(1, 2, on(0), on(1), off(2)),
+                                                       arrow(2, 1, on(2))), [0, 1, 2, 7, 4, 3, 4], 0, 0),
+    ("the second alternative holds", sheet(2, TWO, arrow(1, 2, on(0), on(1), OR, off(0)),
+                                           arrow(2, 1, off(1), on(0))), [3, 1, 2, 1, 1, 0], 0, 0),
+    ("the third alternative holds", sheet(2, TWO, arrow(1, 2, on(0), off(0), OR, on(1), off(1), OR, on(1), on(0))),
+     [1, 2, 0, 3], 0, 0),
+    ("event 5 of six", sheet(6, TWO, arrow(1, 2, on(5), on(0)), arrow(2, 1, off(5))), [0, 32, 33, 63, 31], 0, 0),
+    ("no event", sheet(0, TWO, arrow(1, 2, after(2)), arrow(2, 1, after(1))), [0, 0, 0, 0], 0, 0),
+    ("no transition", sheet(2, NEST), [0, 3, 1], 0, 0),
+    ("one mode", sheet(0, [atomic()]), [0, 0], 0, 0),
+    # power-on
+    ("entered at power-on", sheet(1, THREE, arrow(1, 2, entered(1)), arrow(2, 3, on(0))), [OFF, ON, OFF], 0, 0),
+    ("the root is entered at power-on only",
+     sheet(1, THREE, arrow(1, 2, entered(0)), arrow(2, 3, on(0)), arrow(3, 1, off(0))), [OFF, ON, OFF, OFF], 0, 0),
+    ("nothing exited or taken at power-on", sheet(1, regions(2, 2), arrow(2, 3, exited(2)), arrow(5, 6, taken(0))),
+     [OFF, OFF], 0, 0),
+    ("active at power-on", sheet(1, regions(2, 2), arrow(2, 3, active(5)), arrow(5, 6, active(6))), [OFF, OFF], 0, 0),
+    ("a transition in the first tick", sheet(1, TWO, GO, BACK), [ON, ON, OFF], 0, 0),
+    ("ambiguous at power-on", sheet(0, THREE, arrow(1, 2, entered(1)), arrow(1, 3, entered(1))), [0], 8, 8),
+    ("restless at power-on", sheet(0, TWO, arrow(1, 2, entered(1)), arrow(2, 1, entered(1))), [0], 9, 9),
+    # delays and readings
+    ("a delay of 0", sheet(1, THREE, arrow(1, 2, after(0)), arrow(2, 3, on(0))), [OFF, OFF, ON], 0, 0),
+    ("a delay of 0 and an event, there and back",
+     sheet(1, THREE, arrow(2, 1, after(0)), arrow(1, 2, on(0))), [OFF, ON, OFF], 9, 9),
+    ("a delay of 1", sheet(1, TWO, arrow(1, 2, after(1)), arrow(2, 1, after(1))), [0, 0, 0, 0], 0, 0),
+    ("a delay of 65,535", sheet(0, TWO, arrow(1, 2, after(65535))), [0, 0, 0], 0, 0),
+    ("a timer starts in the tick that enters its source", sheet(1, THREE, arrow(1, 2, on(0)), arrow(2, 3, after(1))),
+     [OFF, ON, OFF, OFF], 0, 0),
+    ("a timer is taken and restarts where its source is entered again in one tick",
+     sheet(0, TWO, arrow(1, 2, after(3)), arrow(2, 1, taken(0))), [0] * 8, 0, 0),
+    ("a timer restarts where its source is left by another transition and entered again in one tick",
+     sheet(1, INNER, arrow(1, 4, after(3)), arrow(2, 4, on(0)), arrow(4, 3, taken(1))), [0, 0, ON, 0, 0, 0], 0, 0),
+    ("a timer goes on where another region moves",
+     sheet(1, regions(2, 2), arrow(2, 3, after(3)), arrow(5, 6, on(0)), arrow(6, 5, off(0))), [0, ON, 0, ON, 0], 0, 0),
+    ("a timer goes on where a child of its source moves",
+     sheet(1, INNER, arrow(1, 4, after(3)), arrow(2, 3, on(0)), arrow(3, 2, off(0))), [0, ON, 0, ON, 0], 0, 0),
+    ("a timer's source is left and not entered again", sheet(1, INNER, arrow(2, 3, after(5)), arrow(1, 4, on(0))),
+     [0, 0, ON], 0, 0),
+    ("a timer's source is left, and entered in a later tick",
+     sheet(1, INNER, arrow(2, 3, after(5)), arrow(1, 4, on(0)), arrow(4, 1, off(0))), [0, 0, ON, ON, 0, 0], 0, 0),
+    ("a timer's source is left with the mode that holds it",
+     sheet(1, INNER, arrow(3, 2, after(4)), arrow(2, 3, entered(2)), arrow(1, 4, on(0))), [0, 0, ON, ON], 0, 0),
+    ("a timer of the root's child runs at power-on and is taken in round 2",
+     sheet(1, regions(2, 3), arrow(2, 3, after(2)), arrow(5, 6, taken(0)), arrow(6, 7, exited(5))), [0, 0, 0, 0], 0, 0),
+    ("a due timer gives way, its source is left and entered again",
+     sheet(0, INNER, arrow(2, 3, after(2)), arrow(1, 4, after(2)), arrow(4, 1, taken(1))), [0, 0, 0, 0, 0], 0, 0),
+    ("two timers of one source", sheet(1, THREE, arrow(1, 2, after(2)), arrow(1, 3, after(3))), [0, 0, 0], 0, 8),
+    ("due together, which no clock reaches", sheet(0, regions(3, 2), arrow(2, 3, after(1)), arrow(2, 4, after(2))),
+     [0, 0, 0, 0], 0, 8),
+    ("restless where two are due, which no clock reaches",
+     sheet(0, regions(3, 2), arrow(2, 3, after(1)), arrow(6, 7, after(2)), arrow(3, 4, taken(1)),
+           arrow(4, 3, taken(0))),
+     [0, 0, 0, 0], 0, 9),
+    # conflict
+    ("two transitions of one source", sheet(1, THREE, GO, arrow(1, 3, on(0))), [OFF, ON], 8, 8),
+    ("two transitions of one source, on present and absent", sheet(1, THREE, GO, arrow(1, 3, off(0))), [ON, ON], 0, 0),
+    ("two transitions of one source, the first triggered in the first round",
+     sheet(1, THREE, GO, arrow(1, 3, exited(1))), [OFF, ON], 0, 0),
+    ("transitions of two regions", sheet(1, regions(2, 2), GO_2, arrow(5, 6, on(0))), [OFF, ON], 0, 0),
+    ("an inner and an outer meeting mode", sheet(1, BOTH, *SIDES), [OFF, ON], 8, 8),
+    ("an outer and an inner meeting mode", sheet(1, BOTH, *SIDES[::-1]), [OFF, ON], 8, 8),
+    ("equal meeting modes, two regions left", sheet(1, BOTH, arrow(3, 8, on(0)), arrow(6, 8, on(0))), [OFF, ON], 8, 8),
+    ("ambiguous in round 2", sheet(1, regions(2, 3), GO_2, arrow(5, 6, taken(0)), arrow(5, 7, taken(0))),
+     [OFF, ON, OFF], 8, 8),
+    ("the first tick is done, the second is ambiguous", sheet(1, THREE, GO, arrow(1, 3, on(0))), [OFF, OFF, ON], 8, 8),
+    # giving way
+    ("an inner transition gives way", sheet(1, INNER, *GIVING), [OFF, ON, ON], 0, 0),
+    ("an inner transition gives way, rows exchanged", sheet(1, INNER, *GIVING[::-1]), [OFF, ON, ON], 0, 0),
+    ("an inner transition gives way to its parent's parent", sheet(1, DEEP, arrow(3, 4, on(0)), arrow(1, 6, on(0))),
+     [OFF, ON], 0, 0),
+    ("three in a row give way", sheet(1, DEEP, arrow(3, 4, on(0)), arrow(2, 5, on(0)), arrow(1, 6, on(0))),
+     [OFF, ON], 0, 0),
+    ("three in a row give way, rows exchanged",
+     sheet(1, DEEP, arrow(1, 6, on(0)), arrow(2, 5, on(0)), arrow(3, 4, on(0))), [OFF, ON], 0, 0),
+    ("two of one inner source both give way",
+     sheet(1, DEEP, arrow(3, 4, on(0)), arrow(3, 5, on(0)), arrow(1, 6, on(0))), [OFF, ON], 0, 0),
+    ("two of one outer source, an inner gives way: ambiguous",
+     sheet(1, DEEP, arrow(3, 4, on(0)), arrow(2, 5, on(0)), arrow(2, 6, on(0))), [OFF, ON], 8, 8),
+    ("an outer one that is not triggered", sheet(2, INNER, arrow(2, 3, on(0)), arrow(1, 4, on(1))), [0, 1, 2], 0, 0),
+    ("both regions' transitions give way to that of the parallel mode",
+     sheet(1, BOTH, arrow(3, 4, on(0)), arrow(6, 7, on(0)), arrow(1, 8, on(0))), [OFF, ON], 0, 0),
+    ("the inner source gives way though its meeting mode is the outer one",
+     sheet(1, DEEP, arrow(3, 6, on(0)), arrow(2, 5, on(0))), [OFF, ON], 0, 0),
+    # restless
+    ("there and back on one event", sheet(1, TWO, GO, arrow(2, 1, on(0))), [OFF, ON], 9, 9),
+    ("there, back, and there again", sheet(1, regions(2, 2), GO_2, arrow(3, 2, taken(0), on(0)), arrow(5, 6, taken(1))),
+     [OFF, ON], 9, 9),
+    ("taken again in a later tick", sheet(1, TWO, GO, BACK), [OFF, ON, OFF, ON, OFF], 0, 0),
+    ("a mode entered twice in a tick, no transition twice",
+     sheet(1, [serial(0, 4), *INNER[1:], atomic()], arrow(4, 2, on(0)), arrow(2, 5, taken(0)), arrow(5, 3, taken(1))),
+     [OFF, ON, ON], 0, 0),
+    ("taken, triggered again and giving way",
+     sheet(1, INNER, arrow(2, 3, on(0)), arrow(3, 2, taken(0)), arrow(1, 4, taken(1))), [OFF, ON, ON], 0, 0),
+    ("8 before 9 in one round", sheet(1, regions(2, 3), *RESTLESS, arrow(5, 6, taken(1)), arrow(5, 7, taken(1))),
+     [OFF, ON], 8, 8),
+    ("9 a round before 8", sheet(1, regions(2, 3, 2), *RESTLESS, arrow(9, 10, taken(1)), arrow(5, 6, taken(2)),
+                                 arrow(5, 7, taken(2))), [OFF, ON], 9, 9),
+    ("8 a round before 9", sheet(1, regions(2, 3), *RESTLESS, arrow(5, 6, taken(0)), arrow(5, 7, taken(0))),
+     [OFF, ON], 8, 8),
+    ("twelve rounds", sheet(1, flat(13), arrow(1, 2, on(0)), *[arrow(m, m + 1, taken(m - 2)) for m in range(2, 13)]),
+     [OFF, ON, ON], 0, 0),
+    # what is exited and entered
+    ("a target inside: its parents' first modes are not entered",
+     sheet(1, [serial(0, 1), atomic(), serial(0, 3), atomic(2), serial(2, 5), atomic(4), atomic(4)],
+           arrow(1, 6, on(0)), arrow(6, 1, off(0)), arrow(3, 1, off(0))), [OFF, ON, OFF], 0, 0),
+    ("a target whose first modes are entered down to the last",
+     sheet(1, [serial(0, 1), atomic(), serial(0, 4), atomic(2), serial(2, 6), atomic(4), atomic(4)],
+           arrow(1, 2, on(0)), arrow(6, 1, off(0))), [OFF, ON, OFF], 0, 0),
+    ("a target in a region: the other region is completed",
+     sheet(1, [serial(0, 8)] + BOTH[1:], arrow(8, 7, on(0)), arrow(1, 8, off(0)), arrow(6, 7, after(2))),
+     [OFF, ON, ON, OFF], 0, 0),
+    ("a parallel target within a parallel mode",
+     sheet(1, [serial(0, 1), atomic(), parallel(), parallel(2), atomic(2), atomic(3), serial(3, 7)] + [atomic(6)] * 2,
+           arrow(1, 2, on(0)), arrow(7, 8, on(0)), arrow(2, 1, off(0))), [OFF, ON, ON, OFF], 0, 0),
+    ("a source inside: the whole child of the meeting mode is exited",
+     sheet(1, NEST, arrow(3, 6, on(0)), arrow(2, 3, entered(2)), arrow(6, 2, off(0))), [OFF, ON, OFF, ON], 0, 0),
+    ("a source deep inside moves in its own parent", sheet(1, DEEP, arrow(3, 4, on(0)), arrow(4, 5, off(0))),
+     [OFF, ON, OFF], 0, 0),
+    ("two regions enter and leave in one round", sheet(1, regions(2, 2), GO_2, arrow(5, 6, on(0)), arrow(3, 2, off(0)),
+                                                       arrow(6, 5, off(0))), [OFF, ON, OFF, ON], 0, 0),
+    # high numbers
+    ("mode 31", sheet(1, flat(31), arrow(1, 31, on(0)), arrow(31, 2, active(31), off(0)), arrow(2, 30, after(2)),
+                      arrow(30, 31, exited(2))), [OFF, ON, OFF, OFF, ON, OFF], 0, 0),
+    ("a timer of mode 31", sheet(1, flat(31), arrow(1, 31, on(0)), arrow(31, 2, after(2))), [ON, OFF, ON, ON], 0, 0),
+    ("transitions 31 and 32", sheet(1, flat(10), *idle(31, range(3, 11)), GO, BACK), [OFF, ON, OFF], 0, 0),
+    ("transitions 62 and 63", sheet(1, flat(12), *idle(62, range(3, 13)), GO, BACK), [OFF, ON, OFF], 0, 0),
+    ("transitions 62 and 63 as timers",
+     sheet(1, flat(12), *idle(62, range(3, 13)), arrow(1, 2, after(2)), arrow(2, 1, after(1))), [0] * 6, 0, 0),
+    ("transitions 31 and 32 as timers at once",
+     sheet(0, regions(2, 2, 7), *idle(31, range(8, 15)), arrow(2, 3, after(1)), arrow(5, 6, after(2))), [0] * 4, 0, 0),
+    ("transition 63 seen taken", sheet(1, flat(12), *idle(61, range(3, 13)), arrow(2, 3, taken(63)), BACK, GO),
+     [OFF, ON], 0, 0),
+]
+
+
+# ---------------------------------------------------------------- compile
+
+def clocks(count, k=0):
+    """As many regions, each with a timer that runs from power-on."""
+    return sheet(k, regions(*[2] * count), *[arrow(3 * r + 2, 3 * r + 3, after(r + 1)) for r in range(count)])
+
+
+EXAMPLE = sheet(1, TWO, GO, arrow(2, 1, after(2)))
+SEVEN = sheet(2, flat(9), GO, arrow(1, 3, on(1)), *[arrow(2, t, after(1)) for t in range(3, 10)])
+UNSURE = sheet(1, THREE, GO, BACK, arrow(2, 3, off(0)))                 # in the block of mode 2
+UNSURE_AT_ONCE = sheet(0, THREE, arrow(1, 2, entered(1)), arrow(1, 3, entered(1)))
+UNEASY = sheet(1, THREE, GO, arrow(2, 3, off(0)), arrow(3, 2, off(0)))
+UNEASY_AT_ONCE = sheet(0, TWO, arrow(1, 2, entered(1)), arrow(2, 1, entered(1)))
+
+# a name, the refusal, the sheet, table words, work-list words
+COMPILES = [
+    ("table words as many as the table has", 0, EXAMPLE, 69, 2),
+    ("one table word less", 10, EXAMPLE, 68, 2),
+    ("one table word more", 0, EXAMPLE, 70, 3),
+    ("no table word", 10, EXAMPLE, 0, 2),
+    ("one work-list word less", 11, EXAMPLE, 69, 1),
+    ("no work-list word", 11, EXAMPLE, 69, 0),
+    ("11 before 10", 11, EXAMPLE, 0, 1),
+    ("six timers", 0, clocks(6), 6000, 64),
+    ("seven timers at power-on", 7, clocks(7), 6000, 64),
+    ("seven timers at power-on, no table word", 7, clocks(7), 0, 1),
+    ("seven timers at power-on, no work-list word", 11, clocks(7), 6000, 0),
+    ("7 when the set is listed: a later cell of the block is ambiguous", 7, SEVEN, 500, 2),
+    ("11 before 7: no place for the set of seven timers", 11, SEVEN, 500, 1),
+    ("8 in a later block than 0", 8, UNSURE, 100, 8),
+    ("8 before 10", 8, UNSURE, 0, 8),
+    ("8 before 11", 8, UNSURE_AT_ONCE, 0, 0),
+    ("11 in an earlier cell than 8", 11, UNSURE, 100, 0),
+    ("9 in a later block than 0", 9, UNEASY, 100, 8),
+    ("9 before 10", 9, UNEASY, 0, 8),
+    ("9 before 11", 9, UNEASY_AT_ONCE, 0, 0),
+    ("11 in an earlier cell than 9", 11, UNEASY, 100, 0),
+]
+
+
+def counter(blocked):
+    """Six rings of four modes: 4,096 sets, or one less. Input set r moves ring r on from place 0 or 2, input set 6 all
+    rings from places 1 and 3."""
+    first = [5 * r + 2 for r in range(6)]
+    code = [[on(e) if c >> e & 1 else off(e) for e in range(3)] for c in range(8)]
+    arrows = []
+    for r in range(6):
+        for i in range(4):
+            arrows.append(arrow(first[r] + i, first[r] + (i + 1) % 4, *code[6 if i % 2 else r]))
+    if blocked:                         # ring 0 never stands at 3 with all others at 2
+        arrows[2] += active(*[first[r] + i for r in range(1, 6) for i in (0, 1, 3)])
+    return sheet(3, regions(*[4] * 6), *arrows)
+
+
+# the interpreter takes seconds for each of these
+LARGE_COMPILES = [
+    ("4,095 sets", 10, counter(True), 65536, 4096),
+    ("4,096 sets", 11, counter(False), 65536, 4096),
+]
+
+
+# ---------------------------------------------------------------- the stream
+
+def state_numbers(state):
+    place, readings = state
+    return [place, len(readings)] + [x for pair in readings.items() for x in pair]
+
+
+def check_case(name, refusal, words):
+    return name, "check", refusal, [1, len(words), *words]
+
+
+def run_case(case, name, refusal, state, inputs, outputs):
+    word = {2: "sheet", 4: "table"}[case]
+    return name, word, refusal, [case, *state_numbers(state), len(inputs), *inputs, outputs]
+
+
+def compile_case(name, refusal, table, work):
+    return name, "compile", refusal, [3, table, work]
+
+
+def state_cases():
+    """CLOCKS, SERIES and FULL with good states and bad ones, and the table of CLOCKS."""
+    for words, states in (SERIES, SERIES_STATES), (FULL, FULL_STATES), (CLOCKS, CLOCK_STATES):
+        yield check_case("states", 0, words)
+        for name, refusal, state in states:
+            yield run_case(2, name, refusal, state, [0], 5)
+    yield compile_case("states of a table", 0, 200, 8)
+    for name, refusal, state in TABLE_STATES:
+        yield run_case(4, name, refusal, state, [0], 5)
+    for case, start in (2, START), (4, 1):
+        states = {GOOD: (start, {0: 4, 2: 2}), BAD: (start, {0: 5, 2: 2})}
+        for name, refusal, state, inputs, outputs in RUNS:
+            yield run_case(case, name, refusal, states[state], inputs, outputs)
+
+
+def broken_cases():
+    """1 to 6 before anything else, and 15 for a table of no word."""
+    for refusal, words in BROKEN.items():
+        yield check_case(f"{refusal} alone", refusal, words)
+        yield run_case(2, f"{refusal}, no input set", refusal, FRESH, [], 0)
+        yield run_case(2, f"{refusal} before 14", refusal, (0, {0: 1}), [], 0)
+        yield run_case(2, f"{refusal} before 12 and 13", refusal, FRESH, [TOP], 4)
+        yield compile_case(f"{refusal} before 10 and 11", refusal, 0, 0)
+        yield compile_case(f"{refusal} leaves the work list", refusal, 20, 4)
+        yield run_case(4, f"{refusal} leaves no table, 15 before 14 and 12", 15, (0, {0: 1}), [0], 4)
+
+
+def tick_cases():
+    """Each chart's run, its compilation, and the same run of its table."""
+    for name, words, inputs, of_run, of_compile in TICKS:
+        yield check_case(name, 0, words)
+        yield run_case(2, name, of_run, FRESH, inputs, 5 * len(inputs))
+        yield compile_case(name, of_compile, 1500, 32)
+        if not of_compile:
+            yield run_case(4, name, of_run, FRESH, inputs, 5 * len(inputs))
+
+
+def compile_cases(compiles):
+    for name, refusal, words, table, work in compiles:
+        yield check_case(name, 0, words)
+        yield compile_case(name, refusal, table, work)
+
+
+def stream():
+    """Name, answer's word, refusal and numbers of each case."""
+    for case in SHEETS:
+        yield check_case(*case)
+    yield from broken_cases()
+    yield from state_cases()
+    yield from tick_cases()
+    yield from compile_cases(COMPILES)
+    yield from compile_cases(LARGE_COMPILES)
+
+
+def main(words):
+    for name, word, refusal, numbers in stream():
+        print(word, refusal, name) if words == ["--refusals"] else print(*numbers)
+
+
+if __name__ == "__main__":
+    main(sys.argv[1:])
