@@ -214,6 +214,7 @@ RUNS = [
     ("13 at the third tick", 13, FOUND, FRESH, [0, 0, 3, 1], 20),
     ("a state whose timer lapses", 15, lapsing(0), [1, 1, 0, 1], [0, 0], 10),
     ("a state whose timer goes on, then lapses", 15, FOUND, [1, 1, 0, 2], [0, 0], 10),
+    ("B is 4,095", 0, table(0, [], START, *[block(1, 0, [1, 0, 0, 0, 0, 0])] * 4094), FRESH, [0, 0], 10),
     ("B is 4,096", 0, table(0, [], START, *[block(1, 0, [1, 0, 0, 0, 0, 0])] * 4094, block(1, 0, cell(4095))),
      FRESH, [0, 0], 10),
     ("block 4,095 of 4,096", 0, FOUND, [4095, 0], [0, 0], 10),
