@@ -28,9 +28,7 @@ pub compiled-faithful : CompiledFaithful
 compiled-faithful = compiled-faithful-from keeps-consistent
 
 -- So a table that compile made runs, from power-on and over any list of calls, as its sheet does. The statement is about the definitions
--- `compile` and `tableRun`. `compiler::compile` and `recorder::table_run::run` are proved equal to these two for all words, results
--- and lent words alike, so it holds of every program that compiles a sheet, keeps as many words of the table slice as the length
--- returned, and runs them from the fresh state on, passing the state that each call returns to the next.
+-- `compile` and `tableRun`; the crate `whole_list` has it of the operations that are proved equal to these two.
 pub whole-list : WholeList
 unfolding WholeList FaithfulServes CompiledFaithful
 whole-list s table work h cs =
