@@ -1,5 +1,5 @@
--- The names that a proof by computing unfolds, in one place: whoever unfolds `opened` unfolds every definition of the meaning. Assumes
--- nothing.
+-- The names that a proof by computing unfolds, in one place, file by file: whoever unfolds `opened` unfolds every definition of the
+-- meaning. Assumes nothing.
 use mathlib.Core.List.{flatten}
 use Rattle.sets.specs.Sets.{digit, has, minus, setOf, those, members, size, some, every, someIn, everyIn}
 use Rattle.meaning.specs.Lists.{rowFrom, isIn, place, overwritten, allOf, firstOf, refusedIf, firstRefusal}
@@ -15,6 +15,58 @@ use Rattle.meaning.specs.TableRun.{dueNumber, tableStateOk, cellOf, stat
 use Rattle.meaning.specs.Compile.{dueSet, pairsFrom, workListFull, timersMany, cellCount, cellTick, listing, cellsFrom, walkFrom, walk, timerWord, cellWords, blockWords, tableWords, compileRefusal, compile}
 use Rattle.meaning.specs.Faithful.{cellFaithful, blockFaithful, faithful}
 
+unfoldable in-sets : Unit {0}
+unfolding digit has minus setOf those members size some every someIn everyIn
+in-sets = tt
+
+unfoldable in-lists : Unit {0}
+unfolding flatten rowFrom isIn place overwritten allOf firstOf refusedIf firstRefusal
+in-lists = tt
+
+unfoldable in-sheet : Unit {0}
+unfolding word nOf kOf tOf kind parent first offset recordLength endBefore source target termCount termKind termValue isChild containsIn contains strictlyContains meetingFrom meetingOf meeting
+in-sheet = tt
+
+unfoldable in-check : Unit {0}
+unfolding headOk modeOk modesOk pairOk pairsOk endOk endsOk kindOk termOk termsOk sharesEnds distinctOk sheetRefusal
+in-check = tt
+
+unfoldable in-hierarchy : Unit {0}
+unfolding children memberOk consistent brings completedIn complete childIn childHolding exits enters
+in-hierarchy = tt
+
+unfoldable in-reaction : Unit {0}
+unfolding isDelay delay isTimer running holds inFirst alternativesFrom alternatives allHold alternative isDue trigger triggered conflict givesWay eligible ambiguous restless exiting entering afterRound
+in-reaction = tt
+
+unfoldable in-tick : Unit {0}
+unfolding fiveWords begin chosen roundsFrom tick
+in-tick = tt
+
+unfoldable in-run : Unit {0}
+unfolding reading powerOn isFresh readingsOk dueTimers nextReadings nextState stops tickThen outputShort inputForeign ran tickRefusal ticks run
+in-run = tt
+
+unfoldable in-sheet-run : Unit {0}
+unfolding stateOk tickFrom stateAfter sheetStep sheetRun
+in-sheet-run = tt
+
+unfoldable in-table : Unit {0}
+unfolding wordIn kIn tIn bIn sourceIn delayIn offsetIn lengthIn endBeforeIn maskIn timersIn cellsIn cellWord timerOk blockOk tableOk
+in-table = tt
+
+unfoldable in-table-run : Unit {0}
+unfolding dueNumber tableStateOk cellOf stateAfterCell isStale tableStep tableRun
+in-table-run = tt
+
+unfoldable in-compile : Unit {0}
+unfolding dueSet pairsFrom workListFull timersMany cellCount cellTick listing cellsFrom walkFrom walk timerWord cellWords blockWords tableWords compileRefusal compile
+in-compile = tt
+
+unfoldable in-faithful : Unit {0}
+unfolding cellFaithful blockFaithful faithful
+in-faithful = tt
+
 unfoldable pub opened : Unit {0}
-unfolding digit has minus setOf those members size some every someIn everyIn flatten rowFrom isIn place overwritten allOf firstOf refusedIf firstRefusal word nOf kOf tOf kind parent first offset recordLength endBefore source target termCount termKind termValue isChild containsIn contains strictlyContains meetingFrom meetingOf meeting headOk modeOk modesOk pairOk pairsOk endOk endsOk kindOk termOk termsOk sharesEnds distinctOk sheetRefusal children memberOk consistent brings completedIn complete childIn childHolding exits enters isDelay delay isTimer running holds inFirst alternativesFrom alternatives allHold alternative isDue trigger triggered conflict givesWay eligible ambiguous restless exiting entering afterRound fiveWords begin chosen roundsFrom tick reading powerOn isFresh readingsOk dueTimers nextReadings nextState stops tickThen outputShort inputForeign ran tickRefusal ticks run stateOk tickFrom stateAfter sheetStep sheetRun wordIn kIn tIn bIn sourceIn delayIn offsetIn lengthIn endBeforeIn maskIn timersIn cellsIn cellWord timerOk blockOk tableOk dueNumber tableStateOk cellOf stateAfterCell isStale tableStep tableRun dueSet pairsFrom workListFull timersMany cellCount cellTick listing cellsFrom walkFrom walk timerWord cellWords blockWords tableWords compileRefusal compile cellFaithful blockFaithful faithful
+unfolding in-sets in-lists in-sheet in-check in-hierarchy in-reaction in-tick in-run in-sheet-run in-table in-table-run in-compile in-faithful
 opened = tt
