@@ -77,7 +77,8 @@ module _ (timers : ℕ) (delayOf : ℕ → ℕ) (readings : List ℕ) where
       go : (t : ℕ) → t < 64 → (b : Bool) → has timers t ≡ b → T (fits b t)
       go t l true e =
           let k = right t l (of-true e) in
-          and-i (leb 1 (reading readings t)) (leb (reading readings t) (delayOf t)) (le→leb 1 (reading readings t) (k .0)) (le→leb (reading readings t) (delayOf t) (k .1))
+          let r = reading readings t in
+          and-i (leb 1 r) (leb r (delayOf t)) (le→leb 1 r (k .0)) (le→leb r (delayOf t) (k .1))
       go t l false e = of-true (eq-eqb (reading readings t) 0 (zero t l e))
 
 -- a timer's delay is 1 or more

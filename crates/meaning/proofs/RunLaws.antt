@@ -199,6 +199,15 @@ module _ (k : ℕ) (step : State → ℕ → Step) where
         run-stops 12
         (first-passed refusal _ z ∙ (unfold refusedIf in (rw (e, h) (first-passed 0 (12 ∷ []) refl ∙ first-alone 12)))) (λ n. omega arith)
 
+    -- their refusals
+    pub refusal-state : refusal ≡ 0 → ok ≡ false → run k step refusal ok q inputs out .refusal ≡ 14
+    unfolding ran stops
+    refusal-state z e = ap (λ (r : Run). r .refusal) (run-state z e)
+
+    pub refusal-short : refusal ≡ 0 → ok ≡ true → outputShort inputs out ≡ true → run k step refusal ok q inputs out .refusal ≡ 12
+    unfolding ran stops
+    refusal-short z e h = ap (λ (r : Run). r .refusal) (run-short z e h)
+
     pub run-goes : refusal ≡ 0 → ok ≡ true → outputShort inputs out ≡ false → run k step refusal ok q inputs out ≡ ran out (ticks k step inputs q)
     unfolding run
     run-goes z e h =
@@ -229,7 +238,7 @@ module _ (k : ℕ) (step : State → ℕ → Step) where
         go true e =
             run-all refusal (admits q) q inputs out (λ r. T (admits (r .state))) (λ _. unfold ran stops in (of-true e))
             (unfold ran in (ticks-keep (λ p. T (admits p)) keeps inputs q (of-true e)))
-        go false e = absurd (n (ap (λ (r : Run). r .refusal) (run-state refusal (admits q) q inputs out none e) ∙ (unfold ran stops in refl)))
+        go false e = absurd (n (refusal-state refusal (admits q) q inputs out none e))
 
     -- where no tick is refused 14, neither is a run from a state that is admitted
     pub run-admitted : ((p : State) (i : ℕ) → step p i .refusal ≡ 14 → ⊥) → (q : State) (inputs out : List ℕ) → T (admits q) → runOn q inputs out .refusal ≡ 14 → ⊥
@@ -248,8 +257,6 @@ module _ (k : ℕ) (step : State → ℕ → Step) where
             (ticks-all (λ _ _ x. x .refusal ≡ 14 → ⊥) (λ _ h. omega arith) (λ i _ p _ h. tick-other p i (inputForeign k i) refl h) (λ _ _ _ _ ih h. ih h))
 
         go : (b : Bool) → outputShort inputs out ≡ b → runOn q inputs out .refusal ≡ 14 → ⊥
-        go true e h =
-            let r : runOn q inputs out .refusal ≡ 12 = ap (λ (x : Run). x .refusal) (run-short refusal (admits q) q inputs out none admitted e) ∙ (unfold ran stops in refl) in
-            omega arith
+        go true e h = omega (arith, refusal-short refusal (admits q) q inputs out none admitted e)
         go false e h =
             ticks-other inputs q (sym (ap (λ (x : Run). x .refusal) (run-goes refusal (admits q) q inputs out none admitted e) ∙ (unfold ran in refl)) ∙ h)

@@ -17,7 +17,7 @@ use Rattle.meaning.specs.Check.{sheetRefusal}
 use Rattle.meaning.specs.Hierarchy.{consistent}
 use Rattle.meaning.specs.Reaction.{running, delay}
 use Rattle.meaning.specs.Tick.{begin, tick}
-use Rattle.meaning.specs.Run.{State, reading, isFresh, readingsOk, inputForeign, stops, Run, ran, run, nextState, outputShort, dueTimers}
+use Rattle.meaning.specs.Run.{State, reading, isFresh, readingsOk, inputForeign, Run, ran, run, nextState, outputShort, dueTimers}
 use Rattle.meaning.specs.SheetRun.{stateOk, tickFrom, stateAfter, sheetStep, sheetRun}
 use Rattle.meaning.specs.Table.{kIn, bIn, delayIn, maskIn, timersIn, tableOk}
 use Rattle.meaning.specs.TableRun.{tableStateOk, cellOf, stateAfterCell, isStale, tableStep, tableRun}
@@ -28,7 +28,7 @@ use Rattle.meaning.proofs.SheetLaws.{Sound, sound, t-le}
 use Rattle.meaning.proofs.TickLaws.{running-e, rounds-refusal}
 use Rattle.meaning.proofs.Consistency.{keeps-consistent}
 use Rattle.meaning.proofs.ReadingLaws.{readings-ok-running, readings-ok-zero, Right, right-fresh, right-next, Zeros, readings-sound, zeros-next}
-use Rattle.meaning.proofs.RunLaws.{tick-known, tick-done, run-state, run-short, run-goes, run-leaves, run-admitted}
+use Rattle.meaning.proofs.RunLaws.{tick-known, tick-done, refusal-state, refusal-short, run-goes, run-leaves, run-admitted}
 use Rattle.meaning.proofs.SheetTicksLaws.{Steady}
 use Rattle.meaning.proofs.LayoutLaws.{b-pos, mask-first}
 use Rattle.meaning.proofs.FaithfulLaws.{k-same, delay-same}
@@ -68,7 +68,8 @@ module _ (s : List ℕ) (sd : Sound s) where
           let r = and-r c (readingsOk (running s (q .at)) (delay s) (q .readings)) k in
           record {
             steady = inr (and-l c (readingsOk (running s (q .at)) (delay s) (q .readings)) k);
-            right = unfold Right in (λ t on. readings-ok-running (running s (q .at)) (delay s) (q .readings) r t (lt-of-lt-of-le (running-e s (q .at) t on .small) (t-le s sd)) on);
+            right = unfold Right in
+                (λ t on. readings-ok-running (running s (q .at)) (delay s) (q .readings) r t (lt-of-lt-of-le (running-e s (q .at) t on .small) (t-le s sd)) on);
             zeros = readings-ok-zero (running s (q .at)) (delay s) (q .readings) r;
           }
 
@@ -111,7 +112,12 @@ module _ (s : List ℕ) (sd : Sound s) (w : List ℕ) (ok : T (tableOk w)) (f : 
           }
 
       other : T (ltb 0 (q .at) && ltb (q .at) (bIn w) && readingsOk (timersIn w (q .at)) (delayIn w) (q .readings)) → StandsGood q
-      other k = record { stands = st; right = unfold Right in right; zeros = λ u l e. readings-ok-zero (timersIn w (q .at)) (delayIn w) (q .readings) r u l (ap (λ (x : ℕ). has x u) same ∙ e) }
+      other k =
+          record {
+            stands = st;
+            right = unfold Right in right;
+            zeros = λ u l e. readings-ok-zero (timersIn w (q .at)) (delayIn w) (q .readings) r u l (ap (λ (x : ℕ). has x u) same ∙ e);
+          }
         where
           place : T (ltb 0 (q .at) && ltb (q .at) (bIn w))
           place = and-l (ltb 0 (q .at) && ltb (q .at) (bIn w)) (readingsOk (timersIn w (q .at)) (delayIn w) (q .readings)) k
@@ -128,10 +134,12 @@ module _ (s : List ℕ) (sd : Sound s) (w : List ℕ) (ok : T (tableOk w)) (f : 
           right : (t : ℕ) → T (has (running s (maskIn w (q .at))) t) → (1 ≤ reading (q .readings) t) × (reading (q .readings) t ≤ delay s t)
           right t on =
               let g = running-e s (maskIn w (q .at)) t on in
-              let b = readings-ok-running (timersIn w (q .at)) (delayIn w) (q .readings) r t (lt-of-lt-of-le (g .small) (t-le s sd)) (subst (λ (x : ℕ). T (has x t)) (sym same) on) in
+              let on′ = subst (λ (x : ℕ). T (has x t)) (sym same) on in
+              let b = readings-ok-running (timersIn w (q .at)) (delayIn w) (q .readings) r t (lt-of-lt-of-le (g .small) (t-le s sd)) on′ in
               (b .0, subst (λ (d : ℕ). reading (q .readings) t ≤ d) (delay-same s w f sd t (g .small) (g .timer)) (b .1))
 
-  table-stays : (q : State) (i : ℕ) → T (tableStateOk w q) → inputForeign (kIn w) i ≡ false → (tableStep w q i .refusal ≡ 0) × T (tableStateOk w (tableStep w q i .state))
+  table-stays : (q : State) (i : ℕ) → T (tableStateOk w q) → inputForeign (kIn w) i ≡ false
+      → (tableStep w q i .refusal ≡ 0) × T (tableStateOk w (tableStep w q i .state))
   table-stays q i h known =
       let g = stands-good q h in
       let known′ = subst (λ (k : ℕ). inputForeign k i ≡ false) (k-same s w f) known in (
@@ -155,7 +163,8 @@ pub sheet-runs-on : SheetRunsOn
 unfolding SheetRunsOn sheetRun
 sheet-runs-on s h q inputs out more out′ n =
     run-admitted (kOf s) (sheetStep s) (sheetRefusal s) h (stateOk s) (tick-other s) _ more out′
-    (run-leaves (kOf s) (sheetStep s) (sheetRefusal s) h (stateOk s) (λ p i e ok. stays s (sound s h) p i ok (tick-done (kOf s) (sheetStep s) p i e .1)) q inputs out n)
+    (run-leaves (kOf s) (sheetStep s) (sheetRefusal s) h (stateOk s)
+    (λ p i e ok. stays s (sound s h) p i ok (tick-done (kOf s) (sheetStep s) p i e .1)) q inputs out n)
 
 -- a tick of a table is refused 15, or not at all
 step-other : (w : List ℕ) (q : State) (i : ℕ) → tableStep w q i .refusal ≡ 14 → ⊥
@@ -189,11 +198,9 @@ faithful-not-stale s w h ok f q inputs out = go (tableStateOk w q) (outputShort 
 
     go : (a b : Bool) → tableStateOk w q ≡ a → outputShort inputs out ≡ b → R .refusal ≡ 15 → ⊥
     go false b e k z =
-        let r : R .refusal ≡ 14 = ap (λ (x : Run). x .refusal) (run-state (kIn w) (tableStep w) _ (tableStateOk w q) q inputs out (layout-ok w ok) e) ∙ (unfold ran stops in refl) in
-        omega arith
+        omega (arith, refusal-state (kIn w) (tableStep w) _ (tableStateOk w q) q inputs out (layout-ok w ok) e)
     go true true e k z =
-        let r : R .refusal ≡ 12 = ap (λ (x : Run). x .refusal) (run-short (kIn w) (tableStep w) _ (tableStateOk w q) q inputs out (layout-ok w ok) e k) ∙ (unfold ran stops in refl) in
-        omega arith
+        omega (arith, refusal-short (kIn w) (tableStep w) _ (tableStateOk w q) q inputs out (layout-ok w ok) e k)
     go true false e k z = other (ltb (length (legal (kOf s) inputs)) (length inputs)) (sym agreed ∙ z)
       where
         good : StandsGood s sd w ok f q

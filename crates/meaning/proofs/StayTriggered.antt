@@ -61,7 +61,8 @@ module _ (s : List ℕ) (i : ℕ) (z z′ : TickSets) (more : More z z′) where
   all-more t (j ∷ js) h =
       let c = termKind s t j in
       let v = termValue s t j in
-      and-i (holds s i z′ c v) (allHold s i z′ t js) (holds-more c v (and-l (holds s i z c v) (allHold s i z t js) h)) (all-more t js (and-r (holds s i z c v) (allHold s i z t js) h))
+      and-i (holds s i z′ c v) (allHold s i z′ t js) (holds-more c v (and-l (holds s i z c v) (allHold s i z t js) h))
+      (all-more t js (and-r (holds s i z c v) (allHold s i z t js) h))
 
   alternative-more : (t : ℕ) → T (ltb 0 (alternative s i z t)) → T (ltb 0 (alternative s i z′ t))
   unfolding alternative
@@ -94,7 +95,8 @@ module _ (s : List ℕ) (sd : Sound s) (i : ℕ) where
           has-union (minus (z .modes) (meet (z .modes) (exits s u))) (enters s u) (source s t)
           ∙ ap (λ (b : Bool). b || has (enters s u) (source s t))
           (has-minus (z .modes) (meet (z .modes) (exits s u)) (source s t)
-          ∙ ap₂ (λ (a b : Bool). a && not b) e (has-meet (z .modes) (exits s u) (source s t) ∙ ap₂ (λ (a b : Bool). a && b) e (is-false (has (exits s u) (source s t)) out)))
+          ∙ ap₂ (λ (a b : Bool). a && not b) e
+          (has-meet (z .modes) (exits s u) (source s t) ∙ ap₂ (λ (a b : Bool). a && b) e (is-false (has (exits s u) (source s t)) out)))
 
       still : getD (o .readings) t 0 ≡ getD (y .readings) t 0
       still =
@@ -103,7 +105,8 @@ module _ (s : List ℕ) (sd : Sound s) (i : ℕ) where
 
       go : (a b : Bool) → has (z .modes) (source s t) ≡ a
           → T (ltb 0 (cond (not a) 0 (cond b (cond (eqb (delay s t) 0 || eqb (getD (y .readings) t 0) 0) 9 0) (alternative s i z t))))
-          → T (ltb 0 (cond (not (has (o .sets .modes) (source s t))) 0 (cond b (cond (eqb (delay s t) 0 || eqb (getD (o .readings) t 0) 0) 9 0) (alternative s i (o .sets) t))))
+          → T (ltb 0 (cond (not (has (o .sets .modes) (source s t))) 0
+          (cond b (cond (eqb (delay s t) 0 || eqb (getD (o .readings) t 0) 0) 9 0) (alternative s i (o .sets) t))))
       go false b e k = absurd k
       go true true e k = rw (on e, still) k
       go true false e k = rw (on e) (alternative-more s i z (o .sets) grows t k)

@@ -91,13 +91,15 @@ SheetStateStays =
 -- so in a table run of a faithful table, where every tick on a known set is done: none is refused 15
 unfoldable pub TableStateStays : Type 0
 TableStateStays =
-    (s w : List ℕ) → sheetRefusal s ≡ 0 → T (tableOk w) → T (faithful s w) → (q : State) (i : ℕ) → T (tableStateOk w q) → inputForeign (kIn w) i ≡ false
+    (s w : List ℕ) → sheetRefusal s ≡ 0 → T (tableOk w) → T (faithful s w)
+    → (q : State) (i : ℕ) → T (tableStateOk w q) → inputForeign (kIn w) i ≡ false
     → (tableStep w q i .refusal ≡ 0) × T (tableStateOk w (tableStep w q i .state))
 
 -- no run is refused 14 on what a run returned that was not refused 14 itself
 unfoldable pub SheetRunsOn : Type 0
 SheetRunsOn =
-    (s : List ℕ) → sheetRefusal s ≡ 0 → (q : State) (inputs out more out′ : List ℕ) → (sheetRun s q inputs out .refusal ≡ 14 → ⊥)
+    (s : List ℕ) → sheetRefusal s ≡ 0 → (q : State) (inputs out more out′ : List ℕ)
+    → (sheetRun s q inputs out .refusal ≡ 14 → ⊥)
     → sheetRun s (sheetRun s q inputs out .state) more out′ .refusal ≡ 14 → ⊥
 
 unfoldable pub TableRunsOn : Type 0

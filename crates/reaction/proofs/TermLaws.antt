@@ -42,7 +42,8 @@ kind-small s t j (suc (suc (suc (suc zero)))) a b d h p q r = omega (arith, ltb�
 kind-small s t j (suc (suc (suc (suc (suc zero))))) a b d h p q r = omega (arith, ltb→lt (termValue s t j) (nOf s) h)
 kind-small s t j (suc (suc (suc (suc (suc (suc zero)))))) a b d h p q r = omega (arith, ltb→lt (termValue s t j) (tOf s) h)
 kind-small s t j (suc (suc (suc (suc (suc (suc (suc zero))))))) a b d h p q r = absurd (r refl)
-kind-small s t j (suc (suc (suc (suc (suc (suc (suc (suc c)))))))) a b d h p q r = absurd (of-false (kind-none s t j (suc (suc (suc (suc (suc (suc (suc (suc c)))))))) (omega arith)) h)
+kind-small s t j (suc (suc (suc (suc (suc (suc (suc (suc c)))))))) a b d h p q r =
+    absurd (of-false (kind-none s t j (suc (suc (suc (suc (suc (suc (suc (suc c)))))))) (omega arith)) h)
 
 module _ (s : List ℕ) (h : sheetRefusal s ≡ 0) (t j : ℕ) (l : t < tOf s) (k : j < termCount s t) where
   met-at : (d : ℕ) → termKind s t j ≡ d → T (kindOk s t j d)
@@ -170,34 +171,43 @@ module _ (s : List ℕ) (i : ℕ) (z : TickSets) (b : i < 2 ^ 32) where
   holds-by (suc (suc (suc (suc (suc (suc (suc (suc c)))))))) v p q =
       none-by c v ∙ sym (holds-none s i z (suc (suc (suc (suc (suc (suc (suc (suc c)))))))) v (omega arith))
 
+  -- term j of t holds: by the sets, by the words f
+  abbrev judged : ℕ → ℕ → Bool
+  judged t j = holds s i z (termKind s t j) (termValue s t j)
+
+  abbrev judgedBy : List ℕ → ℕ → ℕ → Bool
+  judgedBy f t j = holdsBy f (termKind s t j) (termValue s t j)
+
   -- the alternatives of the terms from term j on, where the terms before j that belong to the first have held or not
   abbrev fromHere : ℕ → ℕ → ℕ → Bool → List Bool
   fromHere t w j ok = andFirst ok (map (allHold s i z t) (alternativesFrom s t w j))
 
   -- one term more of the first alternative
   more-first : (t j : ℕ) (ok : Bool) (l : List (List ℕ))
-      → andFirst (ok && holds s i z (termKind s t j) (termValue s t j)) (map (allHold s i z t) l) ≡ andFirst ok (map (allHold s i z t) (inFirst j l))
+      → andFirst (ok && judged t j) (map (allHold s i z t) l) ≡ andFirst ok (map (allHold s i z t) (inFirst j l))
   unfolding andFirst allHold inFirst allOf
   more-first t j ok [] = refl
   more-first t j ok (js ∷ l) =
-      ap (λ (b : Bool). b ∷ map (allHold s i z t) l) (and-assoc ok (holds s i z (termKind s t j) (termValue s t j)) (allHold s i z t js))
+      ap (λ (b : Bool). b ∷ map (allHold s i z t) l) (and-assoc ok (judged t j) (allHold s i z t js))
 
   -- the recursion that the code follows gives the first alternative that holds
-  by-from : (f : List ℕ) (t w j a : ℕ) (ok : Bool) → ((u : ℕ) → u < j + w → holdsBy f (termKind s t u) (termValue s t u) ≡ holds s i z (termKind s t u) (termValue s t u))
+  by-from : (f : List ℕ) (t w j a : ℕ) (ok : Bool) → ((u : ℕ) → u < j + w → judgedBy f t u ≡ judged t u)
       → alternativeByFrom s f t w j a ok ≡ firstOf a (fromHere t w j ok)
   unfolding alternativeByFrom alternativesFrom andFirst allHold allOf firstOf
   by-from f t zero j a ok h = ap (λ (b : Bool). cond b a 0) (sym (and-true ok))
-  by-from f t (suc w) j a ok h = go (eqb (termKind s t j) 7) (by-from f t w (suc j) (suc a) true on) (by-from f t w (suc j) a (ok && holds s i z (termKind s t j) (termValue s t j)) on)
+  by-from f t (suc w) j a ok h =
+      go (eqb (termKind s t j) 7) (by-from f t w (suc j) (suc a) true on) (by-from f t w (suc j) a (ok && judged t j) on)
     where
-      on : (u : ℕ) → u < suc j + w → holdsBy f (termKind s t u) (termValue s t u) ≡ holds s i z (termKind s t u) (termValue s t u)
+      on : (u : ℕ) → u < suc j + w → judgedBy f t u ≡ judged t u
       on u l = h u (omega arith)
 
       go : (b : Bool) → alternativeByFrom s f t w (suc j) (suc a) true ≡ firstOf (suc a) (fromHere t w (suc j) true)
-          → alternativeByFrom s f t w (suc j) a (ok && holds s i z (termKind s t j) (termValue s t j)) ≡ firstOf a (fromHere t w (suc j) (ok && holds s i z (termKind s t j) (termValue s t j)))
-          → cond b (cond ok a (alternativeByFrom s f t w (suc j) (suc a) true)) (alternativeByFrom s f t w (suc j) a (ok && holdsBy f (termKind s t j) (termValue s t j)))
+          → alternativeByFrom s f t w (suc j) a (ok && judged t j) ≡ firstOf a (fromHere t w (suc j) (ok && judged t j))
+          → cond b (cond ok a (alternativeByFrom s f t w (suc j) (suc a) true)) (alternativeByFrom s f t w (suc j) a (ok && judgedBy f t j))
           ≡ firstOf a (andFirst ok (map (allHold s i z t) (cond b ([] ∷ alternativesFrom s t w (suc j)) (inFirst j (alternativesFrom s t w (suc j))))))
       go true next same =
-          ap₂ (λ (b : Bool) (n : ℕ). cond b a n) (sym (and-true ok)) (next ∙ ap (firstOf (suc a)) (and-none (map (allHold s i z t) (alternativesFrom s t w (suc j)))))
+          ap₂ (λ (b : Bool) (n : ℕ). cond b a n) (sym (and-true ok))
+          (next ∙ ap (firstOf (suc a)) (and-none (map (allHold s i z t) (alternativesFrom s t w (suc j)))))
       go false next same =
           ap (λ (b : Bool). alternativeByFrom s f t w (suc j) a (ok && b)) (h j (omega arith))
           ∙ same

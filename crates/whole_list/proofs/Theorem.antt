@@ -7,7 +7,7 @@ use lib.ListN.{take}
 use denote.Ref.{now}
 use Rattle.meaning.specs.Run.{State, powerOn, Run}
 use Rattle.meaning.specs.TableRun.{tableRun}
-use Rattle.meaning.specs.Compile as meaning
+use Rattle.meaning.specs.Compile.{Compiled, compile}
 use Rattle.meaning.specs.WholeList.{runsFrom, Served, WholeList}
 use Rattle.meaning.proofs.Theorem.{whole-list}
 use Rattle.run.specs.States.{stateOf}
@@ -32,14 +32,18 @@ calls-are t q (c ∷ cs) h =
     let first : runOf c ≡ tableRun t q (callOf c .inputs) (callOf c .out) =
     call-is c ∙ ap₂ (λ (w : List ℕ) (p : State). tableRun w p (callOf c .inputs) (callOf c .out)) (h .0) (h .1) in
     let state = state-is c (tableRun t q (callOf c .inputs) (callOf c .out)) first in
-    ap₂ (λ (r : Run) (rs : List Run). r ∷ rs) first (calls-are t (stateOf (c .returned .state)) cs (h .2) ∙ ap (λ (p : State). runsFrom t p (map callOf cs)) state)
+    ap₂ (λ (r : Run) (rs : List Run). r ∷ rs) first
+    (calls-are t (stateOf (c .returned .state)) cs (h .2) ∙ ap (λ (p : State). runsFrom t p (map callOf cs)) state)
 
 pub demand-3 : Demand3
 unfolding Demand3 WholeList sheetWords tableWords
 demand-3 c accepted cs chained =
-    let o = meaning.compile (now (c .lent .0)) (now (c .lent .1 .0)) (now (c .lent .1 .1 .0)) in
+    let sheet = now (c .lent .0) in
+    let table = now (c .lent .1 .0) in
+    let work = now (c .lent .1 .1 .0) in
+    let o = compile sheet table work in
     let told = compile-tells (c .lifetimes) (c .lent) (c .returned) (c .left) (c .contract) in
-    let table : take (o .tableLength) (o .table) ≡ tableWords c = ap (λ (x : meaning.Compiled). take (x .tableLength) (x .table)) (sym told) in
-    let served = whole-list (now (c .lent .0)) (now (c .lent .1 .0)) (now (c .lent .1 .1 .0)) (ap (λ (x : meaning.Compiled). x .refusal) (sym told) ∙ accepted) (map callOf cs) in
+    let words : take (o .tableLength) (o .table) ≡ tableWords c = ap (λ (x : Compiled). take (x .tableLength) (x .table)) (sym told) in
+    let served = whole-list sheet table work (ap (λ (x : Compiled). x .refusal) (sym told) ∙ accepted) (map callOf cs) in
     subst (λ (rs : List Run). Served (sheetWords c) (tableWords c) (map callOf cs) rs) (sym (calls-are (tableWords c) powerOn cs chained))
-    (subst (λ (t : List ℕ). Served (sheetWords c) t (map callOf cs) (runsFrom t powerOn (map callOf cs))) table served)
+    (subst (λ (t : List ℕ). Served (sheetWords c) t (map callOf cs) (runsFrom t powerOn (map callOf cs))) words served)
