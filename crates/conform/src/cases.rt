@@ -12,7 +12,7 @@ use run::state::State;
 use run::state::from_words;
 use simulator::sheet_run::Ran;
 
-// The text that is left after a sheet, and how many words it has.
+// The text that is left after a sheet or a table, and how many words it has.
 pub struct Read {
     pub input: Input,
     pub words: usize,
@@ -135,15 +135,27 @@ fn write_check(refusal: Refusal) {
     text::write(&mut line, at);
 }
 
-// Case 1: a length and the words of a sheet, which is the current one from now on.
+// A length and as many words, which are the current sheet or table from now on.
+pub fn read_words(buf: &mut [u8; 65536], from: Input, words: &mut [u32]) -> Read
+    ensures { λ r. ⌜ r .words ≤ length (now (words .entry)) ⌝ }
+{
+    let m = text::number(buf, from);
+    let count = text::at_most(m.value, words.len());
+    let input = text::numbers(buf, m.input, &mut words[..count]);
+    Read {
+        input,
+        words: count,
+    }
+}
+
+// Case 1: a sheet, and its check.
 pub fn check(buf: &mut [u8; 65536], from: Input, sheet: &mut [u32]) -> Read
     ensures { λ r. ⌜ r .words ≤ length (now (sheet .entry)) ⌝ }
 {
-    let count = text::number(buf, from);
-    let words = text::at_most(count.value, sheet.len());
-    let input = text::numbers(buf, count.input, &mut sheet[..words]);
+    let read = read_words(buf, from, sheet);
+    let words = read.words;
     write_check(sheet::check(&sheet[..words]));
-    Read { input, words }
+    read
 }
 
 // Writes the line of a sheet run, with the digest of its output words.

@@ -106,9 +106,9 @@ fn answer_table(buf: &mut [u8; 65536], table: &mut [u32], kind: u32, from: Left)
             next(n.input, words, lent, text::at_most(n.value, lent))
         }
         24 => {
-            let brought = table_case::brought(buf, input, table);
-            let length = brought.words;
-            next(brought.input, words, length, length)
+            let read = cases::read_words(buf, input, table);
+            let length = read.words;
+            next(read.input, words, length, length)
         }
         _ => Step::Done,
     }

@@ -1,8 +1,5 @@
 // The cases of a table: what each reads after its number, the call that it makes and the line that it writes.
-ghost use Prim.Native.Nat.{_≤_};
-ghost use lib.ListN.{length};
 use super::cases;
-use super::cases::Read;
 use super::text;
 use super::text::Input;
 use meaning::refusal::number;
@@ -49,14 +46,4 @@ pub fn write_word(buf: &mut [u8; 65536], from: Input, table: &mut [u32]) -> Inpu
         table[at] = value.value;
     }
     value.input
-}
-
-// Case 24: a length and the words of a table, which is the current one from now on.
-pub fn brought(buf: &mut [u8; 65536], from: Input, table: &mut [u32]) -> Read
-    ensures { λ r. ⌜ r .words ≤ length (now (table .entry)) ⌝ }
-{
-    let count = text::number(buf, from);
-    let words = text::at_most(count.value, table.len());
-    let input = text::numbers(buf, count.input, &mut table[..words]);
-    Read { input, words }
 }

@@ -39,8 +39,8 @@ at-most-requires c κs = search needs
 next-requires-3 : tie.Need-next-requires-3
 next-requires-3 c κs = search needs
 
-brought-requires : tie.Need-brought-requires
-brought-requires c κs = search needs
+read-words-requires : tie.Need-read-words-requires
+read-words-requires c κs = search needs
 
 next-requires-4 : tie.Need-next-requires-4
 next-requires-4 c κs = search needs
@@ -74,5 +74,5 @@ answer-table-spec =
     tie.close
     (tie.spec slice-reshare-prefix-table-run slice-aggregate-table-run table-run-requires next-requires
     slice-relend-prefix-write-word slice-aggregate-write-word write-word-requires next-requires-2 number-requires
-    at-most-requires next-requires-3 brought-requires next-requires-4 same-length returns same-length-2 returns-2
+    at-most-requires next-requires-3 read-words-requires next-requires-4 same-length returns same-length-2 returns-2
     returns-3 same-length-3 returns-4 returns-5)

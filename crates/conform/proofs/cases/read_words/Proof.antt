@@ -1,8 +1,8 @@
--- `conform::table_case::brought` meets its contract: the table lies within the words for it. Assumes nothing.
+-- `conform::cases::read_words` meets its contract: what is read lies within the words for it. Assumes nothing.
 use lib.ListN.{length-take}
 use borrow.Author.Needs.{needs}
-use Rattle.conform.proofs.table_case.brought.Statement.{statement}
-use Rattle.conform.proofs.table_case.brought.Tie as tie
+use Rattle.conform.proofs.cases.read_words.Statement.{statement}
+use Rattle.conform.proofs.cases.read_words.Tie as tie
 
 number-requires : tie.Need-number-requires
 number-requires c κs = search needs
@@ -25,8 +25,8 @@ same-length c = search needs
 returns : tie.Need-returns
 returns c = search needs
 
-pub brought-spec : {M : Type 1} → statement M
-brought-spec =
+pub read-words-spec : {M : Type 1} → statement M
+read-words-spec =
     tie.close
     (tie.spec number-requires at-most-requires slice-relend-prefix-numbers slice-aggregate-numbers numbers-requires
     same-length returns)
