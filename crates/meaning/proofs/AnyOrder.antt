@@ -19,7 +19,8 @@ use Rattle.meaning.specs.OneByOne.{Reaction, takeOne, takeInOrder, takeT
 use Rattle.meaning.specs.Promises.{AnyOrder}
 use Rattle.meaning.proofs.ListLaws.{rowFrom-at, rowFrom-ext, rowFrom-length, rowFrom-getD, anyOf, anyOf-e, anyOf-i}
 use Rattle.meaning.proofs.SheetLaws.{Sound, sound}
-use Rattle.meaning.proofs.TickLaws.{modes-after, running-e, running-i, eligible-lt}
+use Rattle.meaning.proofs.GivesWayLaws.{eligible-lt}
+use Rattle.meaning.proofs.TickLaws.{modes-after, running-e, running-i}
 use Rattle.meaning.proofs.Consistency.{exiting-e, exiting-i, entering-e, entering-i, clear-apart, exits-enters-apart}
 
 -- ---- one transition more, at one mode: y it is active; x, n the transition exits, enters it; x′, n′ a later one does

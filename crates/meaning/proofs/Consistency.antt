@@ -22,7 +22,7 @@ use Rattle.meaning.specs.Promises.{KeepsConsistent}
 use Rattle.meaning.proofs.ListLaws.{Holds, allOf-e, allOf-i}
 use Rattle.meaning.proofs.SheetLaws.{parent-n, Sound, sound, n-pos, tree}
 use Rattle.meaning.proofs.TickLaws.{Taken, rounds-ind, chosen-lt, chosen-triggered, modes-after}
-use Rattle.meaning.proofs.Containment.{Within, here, up, isChild-e, isChild-i, within-le, within-trans, within-strict, within-total, contains-e, contains-i, not-above, siblings, Ends, ends}
+use Rattle.meaning.proofs.Containment.{Within, here, up, isChild-e, isChild-i, within-le, within-trans, within-strict, within-total, contains-e, contains-i, not-above, siblings, child-holding, Ends, ends, meeting-source}
 use Rattle.meaning.proofs.Completion.{complete-e, Whole, whole}
 
 -- ---- consistency in parts
@@ -108,6 +108,11 @@ module _ (s : List ℕ) (sd : Sound s) where
               (implies (eqb (kind s m) 2) (everyIn (nOf s) (setOf (nOf s) (isChild s m)) (has x)) (λ k. full m h (eqb→eq (kind s m) 2 k)), tt),
             ),
           )
+
+  -- what contains a mode of the set is in the set
+  pub cons-above : {x a m : ℕ} → Cons s x → Within s a m → m < nOf s → T (has x m) → T (has x a)
+  cons-above c here l h = h
+  cons-above c (up {m} p w) l h = cons-above c w (parent-n s (tree s sd) m l) (c .par m l h)
 
   -- ---- completed sets
 
@@ -212,6 +217,23 @@ module _ (s : List ℕ) (sd : Sound s) where
       setOf-i (nOf s) (λ i. someIn (tOf s) es (λ u. has (enters s u) i)) m (enters-lt t m h)
       (someIn-i (tOf s) es (λ u. has (enters s u) m) t l a h)
 
+  -- ---- a transition whose source is in the set
+
+  module _ {x : ℕ} (M : Cons s x) (t : ℕ) (l : t < tOf s) (on : T (has x (source s t))) where
+    -- a child of its meeting mode that is in the set is the one that it exits
+    exited-child : (y : ℕ) → y < nOf s → 0 < y → parent s y ≡ meeting s t → T (has x y) → y ≡ exitTop s t
+    exited-child y ly p e h =
+        let E = ends s sd t l in
+        let cn = lt-of-le-of-lt (within-le s (tree s sd) (E .left .holds) (E .source-n)) (E .source-n) in
+        M .lone y (exitTop s t) ly cn p (E .left .pos) (e ∙ sym (E .left .par)) (ap (kind s) e ∙ E .serial) h (cons-above M (E .left .holds) (E .source-n) on)
+
+    -- so whatever is in the set strictly within its meeting mode it exits
+    pub exited-within : (m : ℕ) → m < nOf s → T (has x m) → Within s (meeting s t) m → (meeting s t ≡ m → ⊥) → T (has (exits s t) m)
+    exited-within m lm h w ne =
+        let c = child-holding s (tree s sd) (meeting s t) m lm w ne in
+        let cn = lt-of-le-of-lt (within-le s (tree s sd) (c .holds) lm) lm in
+        exits-i t m lm (subst (λ (i : ℕ). Within s i m) (exited-child _ cn (c .pos) (c .par) (cons-above M (c .holds) lm h)) (c .holds))
+
   -- ---- transitions below T, no two in conflict: their meeting modes lie apart
 
   module _ (es : ℕ) (small : (t : ℕ) → T (has es t) → t < tOf s)
@@ -293,7 +315,7 @@ module _ (s : List ℕ) (sd : Sound s) where
     )
       where
         own : Within s (meeting s t) (source s t)
-        own = within-trans (p-c t a) (E t a .left .holds)
+        own = meeting-source s sd t (small t a)
 
     -- a round from a consistent set where every source is active
     module _ (z : TickSets) (M : Cons s (z .modes)) (on : (t : ℕ) → T (has es t) → T (has (z .modes) (source s t))) where
@@ -338,26 +360,20 @@ module _ (s : List ℕ) (sd : Sound s) where
           (or-r (has (z .modes) m && not (has (exiting s z es) m)) (has (entering s es) m)
           (entering-i es (i .0) m (small (i .0) (i .1)) (i .1) (i .2)))
 
-      -- what contains a mode of the set is in the set
-      anc : {a m : ℕ} → Within s a m → m < nOf s → T (has (z .modes) m) → T (has (z .modes) a)
-      anc here l h = h
-      anc (up {m} p w) l h = anc w (parent-n s (tree s sd) m l) (M .par m l h)
-
       c-in : (t : ℕ) → T (has es t) → T (has (z .modes) (exitTop s t))
-      c-in t m = anc (E t m .left .holds) (E t m .source-n) (on t m)
+      c-in t m = cons-above M (E t m .left .holds) (E t m .source-n) (on t m)
 
       p-in : (t : ℕ) → T (has es t) → T (has (z .modes) (meeting s t))
       p-in t m = subst (λ (i : ℕ). T (has (z .modes) i)) (E t m .left .par) (M .par (exitTop s t) (c-n t m) (c-in t m))
 
       -- a child of t's meeting mode that is in the set is the one that t exits
       exited : (t : ℕ) → T (has es t) → (y : ℕ) → y < nOf s → 0 < y → parent s y ≡ meeting s t → T (has (z .modes) y) → y ≡ exitTop s t
-      exited t m y l p e h =
-          M .lone y (exitTop s t) l (c-n t m) p (E t m .left .pos) (e ∙ sym (E t m .left .par)) (ap (kind s) e ∙ E t m .serial) h (c-in t m)
+      exited t m = exited-child M t (small t m) (on t m)
 
       -- what is in the set and within what t enters is exited by t
       replaced : (t : ℕ) → T (has es t) → (m : ℕ) → m < nOf s → T (has (z .modes) m) → Within s (enterTop s t) m → Within s (exitTop s t) m
       replaced t g m l h w =
-          subst (λ (i : ℕ). Within s i m) (exited t g (enterTop s t) (e-n t g) (E t g .right .pos) (E t g .right .par) (anc w l h)) w
+          subst (λ (i : ℕ). Within s i m) (exited t g (enterTop s t) (e-n t g) (E t g .right .pos) (E t g .right .par) (cons-above M w l h)) w
 
       -- a meeting mode stays
       stays : (t : ℕ) → T (has es t) → Old (meeting s t)
@@ -476,7 +492,7 @@ module _ (s : List ℕ) (sd : Sound s) where
   -- ---- a tick
 
   -- an eligible transition's source is in the set
-  source-on : (z : TickSets) (d i t : ℕ) → T (ltb 0 (trigger s d i z t)) → T (has (z .modes) (source s t))
+  pub source-on : (z : TickSets) (d i t : ℕ) → T (ltb 0 (trigger s d i z t)) → T (has (z .modes) (source s t))
   unfolding trigger
   source-on z d i t h = go (has (z .modes) (source s t)) h
     where

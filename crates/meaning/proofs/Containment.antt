@@ -1,7 +1,7 @@
--- Containment of modes: the test against a relation, meeting modes and children, conflict. Assumes nothing.
+-- Containment of modes: the test against a relation, meeting modes and children. Assumes nothing.
 use mathlib.Core.Path.{_≡_, refl, sym, ap, _∙_, subst}
 use mathlib.Core.Logic.{_⊎_, inl, inr}
-use mathlib.Core.Bool.{Bool, true, false, not, _&&_, cond, or-comm}
+use mathlib.Core.Bool.{Bool, true, false, not, _&&_, cond}
 use mathlib.Core.List.{List, [], _∷_}
 use Prim.Native.Nat.{ℕ, zero, suc, _≤_, _<_, zero-le}
 use native.Mathlib.Nat.{le-refl, le-trans, lt-of-le-of-lt, not-suc-le-zero, eq-zero-or-pos, le-antisymm}
@@ -46,6 +46,12 @@ module _ {s : List ℕ} where
   within-total here w = inr w
   within-total (up p v) here = inl (up p v)
   within-total (up p v) (up q w) = within-total v w
+
+-- a mode contains itself
+pub contains-same : (s : List ℕ) (m : ℕ) → T (contains s m m)
+unfolding contains containsIn
+contains-same s zero = eqb-refl 0
+contains-same s (suc m) = or-l (eqb (suc m) (suc m)) (containsIn s m (suc m) (parent s (suc m))) (eqb-refl (suc m))
 
 -- the child of p that holds m
 pub record Child (s : List ℕ) (p m c : ℕ) : Type 0 where
@@ -110,6 +116,15 @@ module _ (s : List ℕ) (ro : Rooted s) where
   strictly-lt a m l h =
       lt-of-le-ne (within-le (contains-e a m (and-r (not (eqb a m)) (contains s a m) h)) l)
       (λ e. T-not (eqb a m) (and-l (not (eqb a m)) (contains s a m) h) (of-true (eq-eqb a m e)))
+
+  -- containing strictly goes on
+  pub strictly-trans : (a b m : ℕ) → m < nOf s → T (strictlyContains s a b) → T (strictlyContains s b m) → T (strictlyContains s a m)
+  strictly-trans a b m l h k =
+      let bm = strictly-lt b m l k in
+      let ab = strictly-lt a b (omega (arith, l, bm)) h in
+      unfold strictlyContains in
+      (and-i (not (eqb a m)) (contains s a m) (not-T (eqb a m) (λ e. omega (arith, ab, bm, eqb→eq a m e)))
+      (contains-i m (within-trans (contains-e a b (and-r (not (eqb a b)) (contains s a b) h)) (contains-e b m (and-r (not (eqb b m)) (contains s b m) k))) l))
 
   -- a child is not above its parent, and siblings one within the other are the same
   pub not-above : (y : ℕ) → 0 < y → y < nOf s → Within s y (parent s y) → ⊥
@@ -258,6 +273,8 @@ meeting-lt s sd t l =
     let e = ends s sd t l in
     subst (λ (m : ℕ). m < nOf s) (e .left .par) (parent-n s ro _ (lt-of-le-of-lt (within-le s ro (e .left .holds) (e .source-n)) (e .source-n)))
 
-pub conflict-sym : (s : List ℕ) (t u : ℕ) → conflict s t u ≡ conflict s u t
-unfolding conflict
-conflict-sym s t u = or-comm (contains s (meeting s t) (meeting s u)) (contains s (meeting s u) (meeting s t))
+-- a transition's meeting mode contains its source
+pub meeting-source : (s : List ℕ) (sd : Sound s) (t : ℕ) → t < tOf s → Within s (meeting s t) (source s t)
+meeting-source s sd t l =
+    let c = ends s sd t l .left in
+    within-trans (up (c .pos) (subst (λ (i : ℕ). Within s (meeting s t) i) (sym (c .par)) here)) (c .holds)

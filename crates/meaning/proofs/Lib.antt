@@ -6,6 +6,7 @@ pub mod SheetLaws
 pub mod Containment
 pub mod Completion
 pub mod Fuel
+pub mod GivesWayLaws
 pub mod TickLaws
 pub mod Consistency
 pub mod AnyOrder
@@ -23,6 +24,7 @@ pub mod Simulation
 pub mod ServedLaws
 pub mod WholeListLaws
 pub mod StateLaws
+pub mod HighestLevel
 pub mod TableFaithful
 pub mod TableSound
 pub mod CompiledLaws

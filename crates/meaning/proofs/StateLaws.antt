@@ -23,6 +23,7 @@ use Rattle.meaning.specs.Table.{kIn, bIn, delayIn, maskIn, timersIn, tab
 use Rattle.meaning.specs.TableRun.{tableStateOk, cellOf, stateAfterCell, isStale, tableStep, tableRun}
 use Rattle.meaning.specs.WholeList.{legal}
 use Rattle.meaning.specs.Faithful.{faithful}
+use Rattle.meaning.specs.HighestLevelFirst.{NoReadingZero}
 use Rattle.meaning.specs.Promises.{SheetStateStays, TableStateStays, SheetRunsOn, TableRunsOn, FaithfulNotStale}
 use Rattle.meaning.proofs.SheetLaws.{Sound, sound, t-le}
 use Rattle.meaning.proofs.TickLaws.{running-e, rounds-refusal}
@@ -86,6 +87,10 @@ module _ (s : List ℕ) (sd : Sound s) where
 pub sheet-state-stays : SheetStateStays
 unfolding SheetStateStays
 sheet-state-stays s h q i ok e = stays s (sound s h) q i ok e
+
+pub no-reading-zero : NoReadingZero
+unfolding NoReadingZero Right
+no-reading-zero s h q i ok e t on = good-e s (sound s h) (sheetStep s q i .state) (stays s (sound s h) q i ok e) .right t on .0
 
 -- ---- a faithful table's states
 

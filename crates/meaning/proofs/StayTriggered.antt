@@ -20,7 +20,8 @@ use Rattle.meaning.specs.OneByOne.{Reaction, isTriggered, eligibleIn, ta
 use Rattle.meaning.specs.Promises.{StayTriggered}
 use Rattle.meaning.proofs.ListLaws.{row-at, firstOf-more}
 use Rattle.meaning.proofs.SheetLaws.{Sound, sound, t-le}
-use Rattle.meaning.proofs.TickLaws.{eligible-lt, eligible-among, holds-none, running-e}
+use Rattle.meaning.proofs.GivesWayLaws.{eligible-lt, eligible-among}
+use Rattle.meaning.proofs.TickLaws.{holds-none, running-e}
 use Rattle.meaning.proofs.Consistency.{source-apart, clear-apart}
 
 -- an eligible transition is below T and triggered

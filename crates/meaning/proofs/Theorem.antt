@@ -13,6 +13,7 @@ use Rattle.meaning.proofs.StayTriggered.{stay-triggered}
 use Rattle.meaning.proofs.ServedLaws.{served-from-power-on}
 use Rattle.meaning.proofs.WholeListLaws.{served-each}
 use Rattle.meaning.proofs.StateLaws.{sheet-state-stays, table-state-stays, sheet-runs-on, table-runs-on, faithful-not-stale}
+use Rattle.meaning.proofs.HighestLevel.{highest-level-first}
 use Rattle.meaning.proofs.SheetLaws.{sound}
 use Rattle.meaning.proofs.CompiledLaws.{compiled-faithful-from, compiled-passes}
 
@@ -57,4 +58,5 @@ promised =
       faithfulNotStale = faithful-not-stale;
       compiledFaithful = compiled-faithful;
       faithfulServes = faithful-serves;
+      highestLevelFirst = highest-level-first;
     }

@@ -4,23 +4,24 @@ use mathlib.Core.Logic.{_⊎_, inl, inr, ⊎-elim}
 use mathlib.Core.Bool.{Bool, true, false, not, _&&_, _||_, cond}
 use mathlib.Core.List.{List}
 use Prim.Native.Nat.{ℕ, zero, suc, _+_, _^_, _≤_, _<_, zero-le}
-use native.Mathlib.Nat.{le-refl, le-trans, lt-of-lt-of-le, lt-of-le-of-lt, not-suc-le-zero, le-of-suc-le-suc, eq-zero-or-pos}
+use native.Mathlib.Nat.{le-trans, lt-of-le-of-lt, eq-zero-or-pos}
 use native.Mathlib.Omega.{arith}
 use lib.Dec.{T, eqb, ltb, lt→ltb}
 use borrow.Author.Tests.{eqb-true, eqb-false}
 use Rattle.sets.specs.Sets.{has, minus, single, size, someIn}
 use Rattle.sets.proofs.Tests.{is-false, of-true, and-l, and-r, and-i, or-e, or-l, or-r, above-not}
 use Rattle.sets.proofs.Membership.{has-none, has-union, has-minus, setOf-lt}
-use Rattle.sets.proofs.Facts.{setOf-e, setOf-i, those-e, those-i, someIn-e, someIn-i, size-le, size-lt}
+use Rattle.sets.proofs.Facts.{setOf-e, setOf-i, someIn-e, someIn-i, size-le, size-lt}
 use Rattle.sets.proofs.Those.{those-lt}
 use Rattle.sets.proofs.Members.{empty}
-use Rattle.meaning.specs.Sheet.{tOf, source, strictlyContains}
+use Rattle.meaning.specs.Sheet.{tOf, source}
 use Rattle.meaning.specs.Hierarchy.{complete}
-use Rattle.meaning.specs.Reaction.{TickSets, isDelay, delay, isTimer, running, holds, alternative, isDue, trigger, triggered, conflict, givesWay, eligible, ambiguous, restless, exiting, entering, afterRound}
+use Rattle.meaning.specs.GivesWay.{givesWay}
+use Rattle.meaning.specs.Reaction.{TickSets, isDelay, delay, isTimer, running, holds, alternative, isDue, trigger, triggered, eligible, ambiguous, restless, exiting, entering, afterRound}
 use Rattle.meaning.specs.Tick.{Tick, begin, chosen, roundsFrom, tick}
 use Rattle.meaning.specs.Promises.{TickRounds, RoundsEnough}
-use Rattle.meaning.proofs.SheetLaws.{Sound, tree, source-lt}
-use Rattle.meaning.proofs.Containment.{strictly-lt}
+use Rattle.meaning.proofs.SheetLaws.{Sound}
+use Rattle.meaning.proofs.GivesWayLaws.{eligible-lt, eligible-among, eligible-exists}
 
 -- ---- whatever a round keeps holds at the end of the rounds
 
@@ -80,20 +81,14 @@ module _ (s : List ℕ) (d i : ℕ) where
 
 -- ---- a round takes a transition not taken before
 
-module _ (s : List ℕ) (ts : ℕ) where
-  -- an eligible one of ts is below T, and one of ts
-  pub eligible-lt : (t : ℕ) → T (has (eligible s ts) t) → t < tOf s
-  unfolding eligible
-  eligible-lt t h = those-e (tOf s) ts (λ u. not (someIn (tOf s) ts (givesWay s u))) t h .0
-
-  pub eligible-among : (t : ℕ) → T (has (eligible s ts) t) → T (has ts t)
-  unfolding eligible
-  eligible-among t h = those-e (tOf s) ts (λ u. not (someIn (tOf s) ts (givesWay s u))) t h .1
-
 module _ (s : List ℕ) (d i : ℕ) where
   pub triggered-lt : (z : TickSets) (t : ℕ) → T (has (triggered s d i z) t) → t < tOf s
   unfolding triggered
   triggered-lt z t h = setOf-e (tOf s) (λ u. ltb 0 (trigger s d i z u)) t h .0
+
+  pub triggered-e : (z : TickSets) (t : ℕ) → T (has (triggered s d i z) t) → T (ltb 0 (trigger s d i z t))
+  unfolding triggered
+  triggered-e z t h = setOf-e (tOf s) (λ u. ltb 0 (trigger s d i z u)) t h .1
 
   -- an eligible transition is below T and triggered
   pub chosen-lt : (z : TickSets) (t : ℕ) → T (has (chosen s d i z) t) → t < tOf s
@@ -101,8 +96,8 @@ module _ (s : List ℕ) (d i : ℕ) where
   chosen-lt z t h = eligible-lt s (triggered s d i z) t h
 
   pub chosen-triggered : (z : TickSets) (t : ℕ) → T (has (chosen s d i z) t) → T (ltb 0 (trigger s d i z t))
-  unfolding chosen triggered
-  chosen-triggered z t h = setOf-e (tOf s) (λ u. ltb 0 (trigger s d i z u)) t (eligible-among s (triggered s d i z) t h) .1
+  unfolding chosen
+  chosen-triggered z t h = triggered-e z t (eligible-among s (triggered s d i z) t h)
 
   pub chosen-small : (z : TickSets) → chosen s d i z < 2 ^ tOf s
   unfolding chosen eligible
@@ -200,36 +195,7 @@ pub rounds-enough : RoundsEnough
 unfolding RoundsEnough tick
 rounds-enough s x d i f = rounds-more s d i (suc (tOf s)) f (begin s x) 0 (omega (arith, rounds-bound s d i (suc (tOf s)) x))
 
--- ---- where one is triggered, one is eligible
-
--- the only law of `givesWay` that is used: a rank falls from a transition to one that it gives way to
-rank : List ℕ → ℕ → ℕ
-rank s t = source s t
-
-gives-way-falls : (s : List ℕ) → Sound s → (t u : ℕ) → t < tOf s → T (givesWay s t u) → rank s u < rank s t
-unfolding rank givesWay
-gives-way-falls s sd t u l h =
-    strictly-lt s (tree s sd) (source s u) (source s t) (source-lt s sd t l) (and-r (conflict s t u) (strictlyContains s (source s u) (source s t)) h)
-
-module _ (s : List ℕ) (sd : Sound s) (ts : ℕ) (below : (t : ℕ) → T (has ts t) → t < tOf s) where
-  eligible-within : (f t : ℕ) → rank s t < f → T (has ts t) → (u : ℕ) × T (has (eligible s ts) u)
-  unfolding eligible
-  eligible-within zero t l m = absurd (not-suc-le-zero l)
-  eligible-within (suc f) t l m = go (someIn (tOf s) ts (givesWay s t)) refl (eligible-within f)
-    where
-      go : (b : Bool) → someIn (tOf s) ts (givesWay s t) ≡ b
-          → ((u : ℕ) → rank s u < f → T (has ts u) → (v : ℕ) × T (has (eligible s ts) v))
-          → (v : ℕ) × T (has (eligible s ts) v)
-      go false e ih =
-          (t, those-i (tOf s) ts (λ u. not (someIn (tOf s) ts (givesWay s u))) t (below t m) m (subst (λ (b : Bool). T (not b)) (sym e) tt))
-      go true e ih =
-          let w = someIn-e (tOf s) ts (givesWay s t) (of-true e) in
-          ih (w .0) (lt-of-lt-of-le (gives-way-falls s sd t (w .0) (below t m) (w .3)) (le-of-suc-le-suc l)) (w .2)
-
-  pub eligible-exists : (t : ℕ) → T (has ts t) → (u : ℕ) × T (has (eligible s ts) u)
-  eligible-exists t m = eligible-within (suc (rank s t)) t (le-refl (suc (rank s t))) m
-
--- so a tick that is not refused ends with no transition triggered
+-- where one is triggered, one is eligible; so a tick that is not refused ends with no transition triggered
 pub settled : (s : List ℕ) → Sound s → (d i x : ℕ) → tick s x d i .refusal ≡ 0 → (t : ℕ) → t < tOf s → trigger s d i (tick s x d i .sets) t ≡ 0
 unfolding triggered chosen
 settled s sd d i x e t l = go (eq-zero-or-pos (trigger s d i (tick s x d i .sets) t))

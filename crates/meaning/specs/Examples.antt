@@ -72,7 +72,24 @@ inside-and-leaving =
     sheetOf 1 (serial 0 1 ∷ parallel 0 ∷ atomic 0 ∷ serial 1 4 ∷ atomic 3 ∷ atomic 3 ∷ atomic 1 ∷ [])
     (transition 4 5 (present 0) ∷ transition 6 2 (present 0) ∷ [])
 
--- one source strictly contains another's: 2→3 on event 0, 3→2 once 0 is taken, and 1→4 once 1 is taken, where 1 contains 2 and 3.
+-- one source contains the other and both meet in the root: 1→2 and 3→2, where 1 contains 3
+abbrev equal-levels : List ℕ
+equal-levels =
+    sheetOf 1 (serial 0 1 ∷ serial 0 3 ∷ atomic 0 ∷ atomic 1 ∷ atomic 1 ∷ []) (transition 1 2 (present 0) ∷ transition 3 2 (present 0) ∷ [])
+
+-- three levels, each transition with an event of its own and no source within another: 9→10 meets in 7, 8→6 in 3, 4→2 in the root, where 3
+-- contains 7
+abbrev three-levels : List ℕ
+three-levels =
+    sheetOf 3
+    (serial 0 1 ∷ parallel 0 ∷ atomic 0 ∷ serial 1 5 ∷ atomic 1 ∷ parallel 3 ∷ atomic 3 ∷ serial 5 9 ∷ atomic 5 ∷ atomic 7 ∷ atomic 7 ∷ [])
+    (transition 9 10 (present 0) ∷ transition 8 6 (present 1) ∷ transition 4 2 (present 2) ∷ [])
+
+-- the words of one tick from power-on
+abbrev first-tick : List ℕ → ℕ → List ℕ
+first-tick s i = sheetRun s powerOn (i ∷ []) (lent 5) .out
+
+-- one meeting mode strictly contains another: 2→3 on event 0, 3→2 once 0 is taken, and 1→4 once 1 is taken, where 1 contains 2 and 3.
 -- In the third round transition 0 is triggered again and gives way to transition 2.
 abbrev outer-first : List ℕ
 outer-first =
@@ -127,9 +144,19 @@ pub record Examples : Type 0 where
   pub no-mode : refusal (sheetOf 0 [] []) ≡ 1
   pub modes-32 : refusal (flat 31) ≡ 0
   pub modes-33 : refusal (flat 32) ≡ 1
-  -- "in a parallel mode, one region moving inside while another leaves the whole mode on the same event: 8"
-  pub leaving : refusal inside-and-leaving ≡ 8
-  -- a containing source: not among the document's examples
+  -- Ask 2: "in a parallel mode, one region moving inside while another leaves the whole mode on the same event" "becomes accepted, with the
+  -- leaving transition taken"
+  pub leaving : refusal inside-and-leaving ≡ 0
+  pub leaving-taken : first-tick inside-and-leaving 1 ≡ 95 ∷ 90 ∷ 95 ∷ 2 ∷ 0 ∷ []
+  pub leaving-in-table : tableRun (compile inside-and-leaving (lent 57) (lent 2) .table) powerOn (1 ∷ []) (lent 5) .out ≡ 95 ∷ 90 ∷ 95 ∷ 2 ∷ 0 ∷ []
+  -- "of equal meeting modes neither gives way, even where one source contains the other": 8, which document 01 accepts
+  pub neither : refusal equal-levels ≡ 8
+  -- of three levels the highest that is triggered is taken
+  pub levels-accepted : refusal three-levels ≡ 0
+  pub level-lowest : first-tick three-levels 1 ≡ 1979 ∷ 512 ∷ 1979 ∷ 1 ∷ 0 ∷ []
+  pub level-middle : first-tick three-levels 3 ≡ 1019 ∷ 928 ∷ 1019 ∷ 2 ∷ 0 ∷ []
+  pub level-highest : first-tick three-levels 7 ≡ 959 ∷ 954 ∷ 959 ∷ 4 ∷ 0 ∷ []
+  -- taken, triggered again and giving way: not among the document's examples
   pub outer-taken : sheetRun outer-first powerOn (0 ∷ 1 ∷ []) (lent 10) .out ≡ 7 ∷ 0 ∷ 7 ∷ 0 ∷ 0 ∷ 28 ∷ 14 ∷ 31 ∷ 7 ∷ 0 ∷ []
   -- sets as the round began, and a round against a step of document 002: not among the document's examples either
   pub judged-as-began : sheetRun as-began powerOn (1 ∷ []) (lent 5) .out ≡ 191 ∷ 40 ∷ 191 ∷ 5 ∷ 0 ∷ []
@@ -161,6 +188,13 @@ examples =
       modes-32 = refl;
       modes-33 = refl;
       leaving = refl;
+      leaving-taken = refl;
+      leaving-in-table = refl;
+      neither = refl;
+      levels-accepted = refl;
+      level-lowest = refl;
+      level-middle = refl;
+      level-highest = refl;
       outer-taken = refl;
       judged-as-began = refl;
       round-not-step = refl;

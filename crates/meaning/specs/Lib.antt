@@ -1,8 +1,9 @@
--- Document 01 in its order: the sheet, a tick and its rounds, runs, the table, compile, refusals; then what is promised.
+-- Documents 01 and 02 in the order of 01: the sheet, a tick and its rounds, runs, the table, compile, refusals; then what is promised.
 pub mod Lists
 pub mod Sheet
 pub mod Check
 pub mod Hierarchy
+pub mod GivesWay
 pub mod Reaction
 pub mod Tick
 pub mod Run
@@ -15,6 +16,7 @@ pub mod TickInWords
 pub mod OneByOne
 pub mod WholeList
 pub mod Faithful
+pub mod HighestLevelFirst
 pub mod Promises
 pub mod Charts
 pub mod Opened

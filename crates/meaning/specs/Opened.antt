@@ -6,7 +6,8 @@ use Rattle.meaning.specs.Lists.{rowFrom, isIn, place, overwritten, allOf
 use Rattle.meaning.specs.Sheet.{word, nOf, kOf, tOf, kind, parent, first, offset, recordLength, endBefore, source, target, termCount, termKind, termValue, isChild, containsIn, contains, strictlyContains, meetingFrom, meetingOf, meeting}
 use Rattle.meaning.specs.Check.{headOk, modeOk, modesOk, pairOk, pairsOk, endOk, endsOk, kindOk, termOk, termsOk, sharesEnds, distinctOk, sheetRefusal}
 use Rattle.meaning.specs.Hierarchy.{children, memberOk, consistent, brings, completedIn, complete, childIn, childHolding, exits, enters}
-use Rattle.meaning.specs.Reaction.{isDelay, delay, isTimer, running, holds, inFirst, alternativesFrom, alternatives, allHold, alternative, isDue, trigger, triggered, conflict, givesWay, eligible, ambiguous, restless, exiting, entering, afterRound}
+use Rattle.meaning.specs.GivesWay.{givesWay}
+use Rattle.meaning.specs.Reaction.{isDelay, delay, isTimer, running, holds, inFirst, alternativesFrom, alternatives, allHold, alternative, isDue, trigger, triggered, conflict, eligible, ambiguous, restless, exiting, entering, afterRound}
 use Rattle.meaning.specs.Tick.{fiveWords, begin, chosen, roundsFrom, tick}
 use Rattle.meaning.specs.Run.{reading, powerOn, isFresh, readingsOk, dueTimers, nextReadings, nextState, stops, tickThen, outputShort, inputForeign, ran, tickRefusal, ticks, run}
 use Rattle.meaning.specs.SheetRun.{stateOk, tickFrom, stateAfter, sheetStep, sheetRun}
@@ -35,8 +36,12 @@ unfoldable in-hierarchy : Unit {0}
 unfolding children memberOk consistent brings completedIn complete childIn childHolding exits enters
 in-hierarchy = tt
 
+unfoldable in-gives-way : Unit {0}
+unfolding givesWay
+in-gives-way = tt
+
 unfoldable in-reaction : Unit {0}
-unfolding isDelay delay isTimer running holds inFirst alternativesFrom alternatives allHold alternative isDue trigger triggered conflict givesWay eligible ambiguous restless exiting entering afterRound
+unfolding isDelay delay isTimer running holds inFirst alternativesFrom alternatives allHold alternative isDue trigger triggered conflict eligible ambiguous restless exiting entering afterRound
 in-reaction = tt
 
 unfoldable in-tick : Unit {0}
@@ -68,5 +73,5 @@ unfolding cellFaithful blockFaithful faithful
 in-faithful = tt
 
 unfoldable pub opened : Unit {0}
-unfolding in-sets in-lists in-sheet in-check in-hierarchy in-reaction in-tick in-run in-sheet-run in-table in-table-run in-compile in-faithful
+unfolding in-sets in-lists in-sheet in-check in-hierarchy in-gives-way in-reaction in-tick in-run in-sheet-run in-table in-table-run in-compile in-faithful
 opened = tt

@@ -22,6 +22,7 @@ use Rattle.meaning.specs.TickInWords.{timedTick, timedState}
 use Rattle.meaning.specs.OneByOne.{Reaction, isTriggered, eligibleIn, takeInOrder, takeTogether}
 use Rattle.meaning.specs.Compile.{walkFrom, walk}
 use Rattle.meaning.specs.Faithful.{faithful, FaithfulServes, CompiledFaithful}
+use Rattle.meaning.specs.HighestLevelFirst.{HighestLevelFirst}
 
 -- a tick from power-on or from a consistent set leaves a consistent set
 unfoldable pub KeepsConsistent : Type 0
@@ -135,3 +136,4 @@ pub record Promised : Type 0 where
   pub faithfulNotStale : FaithfulNotStale
   pub compiledFaithful : CompiledFaithful
   pub faithfulServes : FaithfulServes
+  pub highestLevelFirst : HighestLevelFirst

@@ -6,8 +6,9 @@ use Prim.Native.Nat.{ℕ, zero, suc}
 use lib.Dec.{eqb, ltb}
 use Rattle.sets.specs.Sets.{has, union, minus, setOf, those, someIn}
 use Rattle.meaning.specs.Lists.{allOf, firstOf}
-use Rattle.meaning.specs.Sheet.{nOf, tOf, source, termCount, termKind, termValue, contains, strictlyContains, meeting}
+use Rattle.meaning.specs.Sheet.{nOf, tOf, source, termCount, termKind, termValue, contains, meeting}
 use Rattle.meaning.specs.Hierarchy.{exits, enters}
+use Rattle.meaning.specs.GivesWay.{givesWay}
 
 -- the current modes, and the four sets of a tick: modes entered, exited and active, and transitions taken
 pub record TickSets : Type 0 where
@@ -90,13 +91,9 @@ module _ (s : List ℕ) where
   unfoldable pub conflict : ℕ → ℕ → Bool
   conflict t u = contains s (meeting s t) (meeting s u) || contains s (meeting s u) (meeting s t)
 
-  -- t gives way to u, "in conflict, whose source strictly contains its source"
-  unfoldable pub givesWay : ℕ → ℕ → Bool
-  givesWay t u = conflict t u && strictlyContains s (source s u) (source s t)
-
   -- of the triggered transitions ts, those that give way to none: "The rest are eligible."
   unfoldable pub eligible : ℕ → ℕ
-  eligible ts = those (tOf s) ts (λ t. not (someIn (tOf s) ts (givesWay t)))
+  eligible ts = those (tOf s) ts (λ t. not (someIn (tOf s) ts (givesWay s t)))
 
   -- 8: "Two eligible ones in conflict: ambiguous."
   unfoldable pub ambiguous : ℕ → Bool

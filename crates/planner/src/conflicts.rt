@@ -9,18 +9,17 @@ ghost use Rattle.rows.specs.Over.{over};
 ghost use Rattle.meaning.specs.Lists.{rowFrom};
 ghost use Rattle.meaning.specs.Sheet.{tOf};
 ghost use Rattle.meaning.specs.Check.{sheetRefusal};
+ghost use Rattle.meaning.specs.GivesWay.{givesWay};
 ghost use Rattle.meaning.specs.Reaction.{conflict};
 ghost use Rattle.hierarchy.specs.Inside.{Insides};
-ghost use Rattle.reaction.specs.Plan.{conflictsPart, yieldersPart, fromPart, planSize, conflictsOf, yieldersOf};
-ghost use Rattle.planner.specs.Parts.{WordsAt, fromOf, Meetings};
+ghost use Rattle.reaction.specs.Plan.{conflictsPart, yieldersPart, planSize, conflictsOf, yieldersOf};
+ghost use Rattle.planner.specs.Parts.{Meetings};
 use reaction::plan::CONFLICTS;
 use reaction::plan::Plan;
 use reaction::plan::YIELDERS;
-use reaction::plan::from_set;
 use sets::modes;
 use sets::transitions;
 use sheet::hierarchy::meeting;
-use sheet::words::source;
 use sheet::words::transition_count;
 
 // Each transition's own meeting mode.
@@ -46,6 +45,14 @@ fn related(inside: &[u32; 32], p: usize, q: usize) -> bool
     modes::has(inside[p], q) || modes::has(inside[q], p)
 }
 
+// Mode q is strictly within p.
+fn strictly_within(inside: &[u32; 32], p: usize, q: usize) -> bool
+    requires { ⌜ (p < 32) × (q < 32) ⌝ }
+    ensures { λ r. ⌜ r ≡ (not (eqb p q) && has (getD (now (inside .entry)) p 0) q) ⌝ }
+{
+    p != q && modes::has(inside[p], q)
+}
+
 // Transitions t and u are two, in conflict.
 fn is_conflict(sheet: &[u32], inside: &[u32; 32], meets: &[usize; 64], t: usize, u: usize) -> bool
     requires { ⌜ (sheetRefusal (now sheet) ≡ 0)
@@ -58,59 +65,63 @@ fn is_conflict(sheet: &[u32], inside: &[u32; 32], meets: &[usize; 64], t: usize,
     t != u && related(inside, meets[t], meets[u])
 }
 
-// The other transitions in conflict with t.
-fn conflicts_of(sheet: &[u32], inside: &[u32; 32], meets: &[usize; 64], t: usize) -> u64
+// Transition t gives way to u.
+fn gives_way(sheet: &[u32], inside: &[u32; 32], meets: &[usize; 64], t: usize, u: usize) -> bool
+    requires { ⌜ (sheetRefusal (now sheet) ≡ 0)
+        × Insides (now sheet) (now inside)
+        × Meetings (now sheet) (now meets)
+        × (t < tOf (now sheet))
+        × (u < tOf (now sheet)) ⌝ }
+    ensures { λ r. ⌜ r ≡ givesWay (now (sheet .entry)) t u ⌝ }
+{
+    strictly_within(inside, meets[u], meets[t])
+}
+
+// The other transitions in conflict with one, and those that give way to it.
+struct Opposed {
+    conflicts: u64,
+    yielders: u64,
+}
+
+fn opposed_to(sheet: &[u32], inside: &[u32; 32], meets: &[usize; 64], t: usize) -> Opposed
     requires { ⌜ (sheetRefusal (now sheet) ≡ 0)
         × Insides (now sheet) (now inside)
         × Meetings (now sheet) (now meets)
         × (t < tOf (now sheet)) ⌝ }
-    ensures { λ r. ⌜ r ≡ conflictsOf (now (sheet .entry)) t ⌝ }
+    ensures { λ r. ⌜ (r .conflicts ≡ conflictsOf (now (sheet .entry)) t)
+        × (r .yielders ≡ yieldersOf (now (sheet .entry)) t) ⌝ }
 {
     let count = transition_count(sheet);
-    let mut r = 0u64;
+    let mut conflicts = 0u64;
+    let mut yielders = 0u64;
     let mut u = 0;
     while u < count {
-        if is_conflict(sheet, inside, meets, t, u) {
-            r |= transitions::single(u);
-        }
+        conflicts |= transitions::single_if(is_conflict(sheet, inside, meets, t, u), u);
+        yielders |= transitions::single_if(gives_way(sheet, inside, meets, u, t), u);
         u += 1;
     }
-    r
+    Opposed {
+        conflicts,
+        yielders,
+    }
 }
 
-// CONFLICTS.
+// CONFLICTS and YIELDERS.
 pub fn put_conflicts(sheet: &[u32], inside: &[u32; 32], plan: &mut Plan)
     requires { ⌜ (sheetRefusal (now sheet) ≡ 0) × (length (now plan) ≡ planSize) × Insides (now sheet) (now inside) ⌝ }
     ensures { λ _. ⌜ now (plan .exit)
-        ≡ over (now (plan .entry)) conflictsPart
-        (rowFrom 0 (tOf (now (sheet .entry))) (conflictsOf (now (sheet .entry)))) ⌝ }
+        ≡ over
+        (over (now (plan .entry)) conflictsPart
+        (rowFrom 0 (tOf (now (sheet .entry))) (conflictsOf (now (sheet .entry)))))
+        yieldersPart (rowFrom 0 (tOf (now (sheet .entry))) (yieldersOf (now (sheet .entry)))) ⌝ }
 {
     let count = transition_count(sheet);
     let meets = meetings(sheet);
     let mut t = 0;
     while t < count {
-        plan[CONFLICTS + t] = conflicts_of(sheet, inside, &meets, t);
-        t += 1;
-    }
-}
-
-// YIELDERS: of those in conflict with t, the ones with a source strictly within t's.
-pub fn put_yielders(sheet: &[u32], inside: &[u32; 32], plan: &mut Plan)
-    requires { ⌜ (sheetRefusal (now sheet) ≡ 0)
-        × (length (now plan) ≡ planSize)
-        × Insides (now sheet) (now inside)
-        × WordsAt (now plan) fromPart 32 (fromOf (now sheet))
-        × WordsAt (now plan) conflictsPart (tOf (now sheet)) (conflictsOf (now sheet)) ⌝ }
-    ensures { λ _. ⌜ now (plan .exit)
-        ≡ over (now (plan .entry)) yieldersPart
-        (rowFrom 0 (tOf (now (sheet .entry))) (yieldersOf (now (sheet .entry)))) ⌝ }
-{
-    let count = transition_count(sheet);
-    let mut t = 0;
-    while t < count {
-        let a = source(sheet, t);
-        let within = modes::minus(inside[a], modes::single(a));
-        plan[YIELDERS + t] = from_set(sheet, plan, within) & plan[CONFLICTS + t];
+        let opposed = opposed_to(sheet, inside, &meets, t);
+        plan[CONFLICTS + t] = opposed.conflicts;
+        plan[YIELDERS + t] = opposed.yielders;
         t += 1;
     }
 }

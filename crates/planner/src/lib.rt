@@ -36,7 +36,6 @@ pub fn planned(sheet: &[u32]) -> Plan
     sources::put_changes(sheet, &mut plan, EXITS, LOSES);
     sources::put_changes(sheet, &mut plan, ENTERS, GAINS);
     conflicts::put_conflicts(sheet, &inside, &mut plan);
-    conflicts::put_yielders(sheet, &inside, &mut plan);
     classes::put_delays(sheet, timing, &mut plan);
     hits::put_hits(sheet, certain, &mut plan);
     plan[TIMERS] = timing;

@@ -21,7 +21,8 @@ use Rattle.meaning.specs.Refusal.{numberOf}
 use Rattle.meaning.specs.declared.refusal.Refusal.{Refusal}
 use Rattle.meaning.specs.declared.refusal.Refusal.the-variants.{Nothing, Ambiguous, Restless}
 use Rattle.meaning.specs.Hierarchy.{complete, exits, enters}
-use Rattle.meaning.specs.Reaction.{TickSets, isDelay, delay, isTimer, alternative, isDue, trigger, triggered, conflict, givesWay, eligible, ambiguous, restless, exiting, entering, afterRound}
+use Rattle.meaning.specs.GivesWay.{givesWay}
+use Rattle.meaning.specs.Reaction.{TickSets, isDelay, delay, isTimer, alternative, isDue, trigger, triggered, conflict, eligible, ambiguous, restless, exiting, entering, afterRound}
 use Rattle.meaning.specs.Tick.{Tick, begin, chosen, roundsFrom, tick}
 use Rattle.meaning.proofs.SheetLaws.{Sound, n-le}
 use Rattle.reaction.proofs.PlanLaws.{sourcesIn-lt, has-sourcesIn}

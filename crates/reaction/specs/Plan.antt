@@ -9,7 +9,8 @@ use Rattle.sets.specs.Sets.{has, single, setOf, every}
 use Rattle.meaning.specs.Sheet.{kOf, tOf, source, termCount, termKind}
 use Rattle.meaning.specs.Check.{sheetRefusal}
 use Rattle.meaning.specs.Hierarchy.{complete, exits, enters}
-use Rattle.meaning.specs.Reaction.{TickSets, isDelay, delay, isTimer, alternative, conflict, givesWay}
+use Rattle.meaning.specs.GivesWay.{givesWay}
+use Rattle.meaning.specs.Reaction.{TickSets, isDelay, delay, isTimer, alternative, conflict}
 
 -- ---- where the parts of the plan begin: 64 words each, one for a transition or an input set, but 32 from `fromPart` on, one for a
 -- mode; then three words and the end

@@ -6,8 +6,8 @@ use native.Mathlib.Omega.{arith}
 use borrow.Author.Needs.{needs}
 use lib.ListN.{replicate, getD-replicate}
 use Rattle.meaning.specs.Check.{sheetRefusal}
-use Rattle.reaction.specs.Plan.{exitsPart, entersPart, conflictsPart, yieldersPart, losesPart, gainsPart, fromPart, timersWord, mixedWord, startWord, planSize, conflictsOf}
-use Rattle.planner.proofs.Assembly.{Laid, lay, lay-word, none-laid, laid-has, laid-long, fromPiece, rowPiece, losesPiece, delaysPiece, ends, changes, conflicts, classes, row-fits, hits-fit, loses-are, gains-are, planned-of}
+use Rattle.reaction.specs.Plan.{exitsPart, entersPart, conflictsPart, yieldersPart, losesPart, gainsPart, fromPart, timersWord, mixedWord, startWord, planSize}
+use Rattle.planner.proofs.Assembly.{Laid, lay, lay-word, none-laid, laid-has, laid-long, fromPiece, losesPiece, delaysPiece, ends, changes, conflicts, classes, row-fits, hits-fit, loses-are, gains-are, planned-of}
 use Rattle.planner.proofs.planned.Statement.{statement}
 use Rattle.planner.proofs.planned.Tie as tie
 
@@ -27,11 +27,8 @@ by-gains c = by-loses (c .before .before)
 abbrev by-conflicts : tie.After-put-conflicts → tie.After-classes-of
 by-conflicts c = by-gains (c .before .before .before)
 
-abbrev by-yielders : tie.After-put-yielders → tie.After-classes-of
-by-yielders c = by-conflicts (c .before .before .before)
-
 abbrev by-delays : tie.After-put-delays → tie.After-classes-of
-by-delays c = by-yielders (c .before .before)
+by-delays c = by-conflicts (c .before .before)
 
 abbrev by-hits : tie.After-put-hits → tie.After-classes-of
 by-hits c = by-delays (c .before .before)
@@ -64,14 +61,14 @@ laid-gains c =
     let d = laid-loses (c .before .before) in
     lay _ (row-fits _ h gainsPart _ (omega arith)) d (gains-are _ h d (c .put-changes2 .ensures))
 
-laid-conflicts : (c : tie.After-put-conflicts) → let s = sheet (by-conflicts c) in Laid (rowPiece s conflictsPart (conflictsOf s) ∷ changes s) (c .put-conflicts .last .1 .1 .0)
-laid-conflicts c = lay _ (row-fits _ (past (by-conflicts c)) conflictsPart _ (omega arith)) (laid-gains (c .before .before .before)) (c .put-conflicts .ensures)
-
-laid-yielders : (c : tie.After-put-yielders) → let s = sheet (by-yielders c) in Laid (conflicts s) (c .put-yielders .last .1 .1 .0)
-laid-yielders c = lay _ (row-fits _ (past (by-yielders c)) yieldersPart _ (omega arith)) (laid-conflicts (c .before .before .before)) (c .put-yielders .ensures)
+laid-conflicts : (c : tie.After-put-conflicts) → let s = sheet (by-conflicts c) in Laid (conflicts s) (c .put-conflicts .last .1 .1 .0)
+laid-conflicts c =
+    let h = past (by-conflicts c) in
+    lay _ (row-fits _ h yieldersPart _ (omega arith))
+    (lay _ (row-fits _ h conflictsPart _ (omega arith)) (laid-gains (c .before .before .before)) refl) (c .put-conflicts .ensures)
 
 laid-delays : (c : tie.After-put-delays) → let s = sheet (by-delays c) in Laid (delaysPiece s ∷ conflicts s) (c .put-delays .last .1 .1 .0)
-laid-delays c = lay _ (record { within = omega arith; inside = omega arith }) (laid-yielders (c .before .before)) (c .put-delays .ensures)
+laid-delays c = lay _ (record { within = omega arith; inside = omega arith }) (laid-conflicts (c .before .before)) (c .put-delays .ensures)
 
 laid-hits : (c : tie.After-put-hits) → let s = sheet (by-hits c) in Laid (classes s) (c .put-hits .last .1 .1 .0)
 laid-hits c = lay _ (hits-fit _ (past (by-hits c))) (laid-delays (c .before .before)) (c .put-hits .ensures)
@@ -101,13 +98,8 @@ put-changes-requires-2 c κs =
 put-conflicts-requires : tie.Need-put-conflicts-requires
 put-conflicts-requires c κs = (past (by-gains (c .before .before)), laid-long (laid-gains (c .before .before)), by-gains (c .before .before) .before .insides .ensures)
 
-put-yielders-requires : tie.Need-put-yielders-requires
-put-yielders-requires c κs =
-    let d = laid-conflicts (c .before .before) in
-    (past (by-conflicts (c .before .before)), laid-long d, by-conflicts (c .before .before) .before .insides .ensures, laid-has 5 d tt, laid-has 0 d tt)
-
 put-delays-requires : tie.Need-put-delays-requires
-put-delays-requires c κs = (past (by-yielders (c .before)), laid-long (laid-yielders (c .before)), by-yielders (c .before) .classes-of .ensures .0)
+put-delays-requires c κs = (past (by-conflicts (c .before)), laid-long (laid-conflicts (c .before)), by-conflicts (c .before) .classes-of .ensures .0)
 
 put-hits-requires : tie.Need-put-hits-requires
 put-hits-requires c κs = (past (by-delays (c .before)), laid-long (laid-delays (c .before)), by-delays (c .before) .classes-of .ensures .1)
@@ -140,5 +132,5 @@ pub planned-spec : {M : Type 1} → statement M
 planned-spec =
     tie.close
     (tie.spec insides-requires classes-of-requires put-from-requires put-ends-requires put-changes-requires
-    put-changes-requires-2 put-conflicts-requires put-yielders-requires put-delays-requires put-hits-requires
+    put-changes-requires-2 put-conflicts-requires put-delays-requires put-hits-requires
     array-write-plan mixed-requires array-write-plan-2 start-requires cast-plan array-write-plan-3 returns)

@@ -1,5 +1,5 @@
--- `planner::conflicts::put_conflicts` meets its contract. Assumes nothing.
-use mathlib.Core.Path.{_≡_}
+-- `planner::conflicts::put_conflicts` meets its contract: both parts are laid for the transitions passed. Assumes nothing.
+use mathlib.Core.Path.{_≡_, _∙_}
 use Prim.Native.Nat.{_-_, _≤_}
 use native.Mathlib.Omega.{arith}
 use borrow.Author.Needs.{needs}
@@ -7,14 +7,17 @@ use Rattle.rows.specs.Over.{over}
 use Rattle.meaning.specs.Lists.{rowFrom}
 use Rattle.meaning.specs.Sheet.{tOf}
 use Rattle.meaning.proofs.SheetLaws.{sound, t-le}
-use Rattle.reaction.specs.Plan.{conflictsPart, conflictsOf}
+use Rattle.reaction.specs.Plan.{conflictsPart, yieldersPart, conflictsOf, yieldersOf}
 use Rattle.sheet.proofs.Past.{head-read}
-use Rattle.planner.proofs.PartLaws.{part-none, part-turn, part-done}
+use Rattle.planner.proofs.PartLaws.{part-none, parts-turn, parts-done}
 use Rattle.planner.proofs.conflicts.put_conflicts.Statement.{statement}
 use Rattle.planner.proofs.conflicts.put_conflicts.Tie as tie
 
 abbrev Inv-loop : tie.InvT-loop
-Inv-loop sheet inside plan₀ count meets t₀ plan t = (t ≤ tOf sheet) × (tOf sheet ≤ 64) × (plan ≡ over plan₀ conflictsPart (rowFrom 0 t (conflictsOf sheet)))
+Inv-loop sheet inside plan₀ count meets t₀ plan t =
+    (t ≤ tOf sheet)
+    × (tOf sheet ≤ 64)
+    × (plan ≡ over (over plan₀ conflictsPart (rowFrom 0 t (conflictsOf sheet))) yieldersPart (rowFrom 0 t (yieldersOf sheet)))
 
 abbrev μ-loop : tie.MeasureT-loop
 μ-loop sheet inside plan₀ count meets t₀ plan t = tOf sheet - t
@@ -26,10 +29,12 @@ meetings-requires : tie.Need-meetings-requires Inv-loop μ-loop
 meetings-requires c κs = c .before .before .pre .0
 
 loop-holds : tie.Need-loop-holds Inv-loop μ-loop
-loop-holds c = (omega arith, t-le _ (sound _ (c .before .before .before .pre .0)), part-none (c .before .before .before .args .plan .now) conflictsPart _)
+loop-holds c =
+    let b = c .before .before .before in
+    (omega arith, t-le _ (sound _ (b .pre .0)), part-none (b .args .plan .now) conflictsPart _ ∙ part-none _ yieldersPart _)
 
-conflicts-of-requires : tie.Need-conflicts-of-requires Inv-loop μ-loop
-conflicts-of-requires c κs =
+opposed-to-requires : tie.Need-opposed-to-requires Inv-loop μ-loop
+opposed-to-requires c κs =
     let b = c .before .before .before .before .before .before in
     (b .pre .0, b .pre .2, c .before .before .before .meetings .ensures, omega arith)
 
@@ -42,6 +47,15 @@ mul-plan c = omega arith
 element-write-plan : tie.Need-element-write-plan Inv-loop μ-loop
 element-write-plan c = omega arith
 
+add-plan-2 : tie.Need-add-plan-2 Inv-loop μ-loop
+add-plan-2 c = omega arith
+
+mul-plan-2 : tie.Need-mul-plan-2 Inv-loop μ-loop
+mul-plan-2 c = omega arith
+
+element-write-plan-2 : tie.Need-element-write-plan-2 Inv-loop μ-loop
+element-write-plan-2 c = omega arith
+
 add-t : tie.Need-add-t Inv-loop μ-loop
 add-t c = omega arith
 
@@ -52,14 +66,15 @@ loop-again : tie.Need-loop-again Inv-loop μ-loop
 loop-again c =
     let b = c .before .before .before .before .before .before .before in
     let l = c .before .before .before .loop in
-    let f = conflictsOf (b .args .sheet .now) in
-    (omega arith, l .inv .1, part-turn (b .args .plan .now) conflictsPart f (l .t) (omega arith) (l .inv .2) (c .conflicts-of .ensures))
+    let s = b .args .sheet .now in
+    let turn = parts-turn (b .args .plan .now) conflictsPart yieldersPart (conflictsOf s) (yieldersOf s) (l .t) (omega arith) (omega arith) (l .inv .2) in
+    (omega arith, l .inv .1, turn (c .opposed-to .ensures .0) (c .opposed-to .ensures .1))
 
 returns : tie.Need-returns Inv-loop μ-loop
-returns c = part-done _ _ _ _ (c .before .loop .inv .2) (omega arith)
+returns c = parts-done _ _ _ _ _ _ (c .before .loop .inv .2) (omega arith)
 
 pub put-conflicts-spec : {M : Type 1} → statement M
 put-conflicts-spec =
     tie.close
-    (tie.spec Inv-loop μ-loop transition-count-requires meetings-requires loop-holds conflicts-of-requires add-plan
-    mul-plan element-write-plan add-t loop-less loop-again returns)
+    (tie.spec Inv-loop μ-loop transition-count-requires meetings-requires loop-holds opposed-to-requires add-plan
+    mul-plan element-write-plan add-plan-2 mul-plan-2 element-write-plan-2 add-t loop-less loop-again returns)
