@@ -1,7 +1,7 @@
 """Cases made for one rule each: what breaks just that rule, beside a neighbour that is just good.
 
     directed_cases.py               the cases, as the conformance program reads them, without the 0 that ends a stream
-    directed_cases.py --refusals    for each answer its word, the refusal that document 01 gives, and the case's name
+    directed_cases.py --refusals    for each answer its word, the refusal that the documents give, and the case's name
 
 Tables that break the layout stand in hostile_tables.py.
 """
@@ -356,6 +356,9 @@ RUNS = [
 ON, OFF = 1, 0
 INNER = [serial(0, 1), serial(0, 2), atomic(1), atomic(1), atomic()]                            # 1: 2 3, 4
 DEEP = [serial(0, 1), serial(0, 2), serial(1, 3), atomic(2), atomic(2), atomic(1), atomic()]    # 1: 2 (3 4) 5, 6
+# 1: 3 (5: 7 (9 10), 8; 6), 4; 2
+LEVELS = [serial(0, 1), parallel(), atomic(), serial(1, 5), atomic(1), parallel(3), atomic(3), serial(5, 9), atomic(5),
+          atomic(7), atomic(7)]
 
 
 def seen_early(term):
@@ -365,6 +368,8 @@ def seen_early(term):
 
 GO_2 = arrow(2, 3, on(0))
 SIDES = [arrow(3, 4, on(0)), arrow(6, 8, on(0))]
+NESTED = [arrow(1, 4, on(0)), arrow(2, 4, on(0))]
+LEAVING = [arrow(9, 10, on(0)), arrow(8, 6, on(1)), arrow(4, 2, on(2))]
 GIVING = [arrow(2, 3, on(0)), arrow(1, 4, on(0))]
 RESTLESS = [arrow(2, 3, on(0)), arrow(3, 2, taken(0))]
 
@@ -419,7 +424,7 @@ TICKS = [
     ("a timer is taken and restarts where its source is entered again in one tick",
      sheet(0, TWO, arrow(1, 2, after(3)), arrow(2, 1, taken(0))), [0] * 8, 0, 0),
     ("a timer restarts where its source is left by another transition and entered again in one tick",
-     sheet(1, INNER, arrow(1, 4, after(3)), arrow(2, 4, on(0)), arrow(4, 3, taken(1))), [0, 0, ON, 0, 0, 0], 0, 0),
+     sheet(1, DEEP, arrow(2, 5, after(3)), arrow(3, 6, on(0)), arrow(6, 4, taken(1))), [0, 0, ON, 0, 0, 0], 0, 0),
     ("a timer goes on where another region moves",
      sheet(1, regions(2, 2), arrow(2, 3, after(3)), arrow(5, 6, on(0)), arrow(6, 5, off(0))), [0, ON, 0, ON, 0], 0, 0),
     ("a timer goes on where a child of its source moves",
@@ -434,6 +439,10 @@ TICKS = [
      sheet(1, regions(2, 3), arrow(2, 3, after(2)), arrow(5, 6, taken(0)), arrow(6, 7, exited(5))), [0, 0, 0, 0], 0, 0),
     ("a due timer gives way, its source is left and entered again",
      sheet(0, INNER, arrow(2, 3, after(2)), arrow(1, 4, after(2)), arrow(4, 1, taken(1))), [0, 0, 0, 0, 0], 0, 0),
+    ("a due timer gives way to another region's transition, its source is left and entered again",
+     sheet(1, BOTH, arrow(3, 4, after(2)), arrow(6, 8, on(0)), arrow(8, 7, taken(1))), [0, 0, ON, 0, 0, 0], 0, 0),
+    ("a timer and an event leave one mode, in a run not together",
+     sheet(1, INNER, arrow(1, 4, after(3)), arrow(2, 4, on(0)), arrow(4, 3, taken(1))), [0, 0, ON, 0, 0, 0], 0, 8),
     ("two timers of one source", sheet(1, THREE, arrow(1, 2, after(2)), arrow(1, 3, after(3))), [0, 0, 0], 0, 8),
     ("due together, which no clock reaches", sheet(0, regions(3, 2), arrow(2, 3, after(1)), arrow(2, 4, after(2))),
      [0, 0, 0, 0], 0, 8),
@@ -447,9 +456,10 @@ TICKS = [
     ("two transitions of one source, the first triggered in the first round",
      sheet(1, THREE, GO, arrow(1, 3, exited(1))), [OFF, ON], 0, 0),
     ("transitions of two regions", sheet(1, regions(2, 2), GO_2, arrow(5, 6, on(0))), [OFF, ON], 0, 0),
-    ("an inner and an outer meeting mode", sheet(1, BOTH, *SIDES), [OFF, ON], 8, 8),
-    ("an outer and an inner meeting mode", sheet(1, BOTH, *SIDES[::-1]), [OFF, ON], 8, 8),
     ("equal meeting modes, two regions left", sheet(1, BOTH, arrow(3, 8, on(0)), arrow(6, 8, on(0))), [OFF, ON], 8, 8),
+    ("equal meeting modes, one source contains the other", sheet(1, INNER, *NESTED), [OFF, ON], 8, 8),
+    ("equal meeting modes, one source contains the other, rows exchanged",
+     sheet(1, INNER, *NESTED[::-1]), [OFF, ON], 8, 8),
     ("ambiguous in round 2", sheet(1, regions(2, 3), GO_2, arrow(5, 6, taken(0)), arrow(5, 7, taken(0))),
      [OFF, ON, OFF], 8, 8),
     ("the first tick is done, the second is ambiguous", sheet(1, THREE, GO, arrow(1, 3, on(0))), [OFF, OFF, ON], 8, 8),
@@ -464,13 +474,24 @@ TICKS = [
      sheet(1, DEEP, arrow(1, 6, on(0)), arrow(2, 5, on(0)), arrow(3, 4, on(0))), [OFF, ON], 0, 0),
     ("two of one inner source both give way",
      sheet(1, DEEP, arrow(3, 4, on(0)), arrow(3, 5, on(0)), arrow(1, 6, on(0))), [OFF, ON], 0, 0),
-    ("two of one outer source, an inner gives way: ambiguous",
-     sheet(1, DEEP, arrow(3, 4, on(0)), arrow(2, 5, on(0)), arrow(2, 6, on(0))), [OFF, ON], 8, 8),
+    ("two of one source on two levels: the higher is taken",
+     sheet(1, DEEP, arrow(3, 4, on(0)), arrow(2, 5, on(0)), arrow(2, 6, on(0))), [OFF, ON], 0, 0),
     ("an outer one that is not triggered", sheet(2, INNER, arrow(2, 3, on(0)), arrow(1, 4, on(1))), [0, 1, 2], 0, 0),
     ("both regions' transitions give way to that of the parallel mode",
      sheet(1, BOTH, arrow(3, 4, on(0)), arrow(6, 7, on(0)), arrow(1, 8, on(0))), [OFF, ON], 0, 0),
-    ("the inner source gives way though its meeting mode is the outer one",
+    ("the outer source gives way, as its meeting mode is the inner one",
      sheet(1, DEEP, arrow(3, 6, on(0)), arrow(2, 5, on(0))), [OFF, ON], 0, 0),
+    ("a region gives way to one that leaves", sheet(1, BOTH, *SIDES), [OFF, ON], 0, 0),
+    ("a region gives way to one that leaves, rows exchanged", sheet(1, BOTH, *SIDES[::-1]), [OFF, ON], 0, 0),
+    ("a region gives way, and is taken once it is entered again",
+     sheet(1, BOTH, *SIDES, arrow(8, 7, taken(1))), [OFF, ON], 0, 0),
+    ("two of equal meeting modes both give way to a third",
+     sheet(1, DEEP, arrow(3, 5, on(0)), arrow(2, 5, on(0)), arrow(1, 6, on(0))), [OFF, ON], 0, 0),
+    ("three levels, no source within another", sheet(3, LEVELS, *LEAVING), [0, 7], 0, 0),
+    ("three levels, the highest not triggered", sheet(3, LEVELS, *LEAVING), [0, 3, 4], 0, 0),
+    ("a higher level beside: both are taken",
+     sheet(1, [parallel(), serial(0, 3), serial(0, 5), atomic(1), atomic(1), serial(2, 6), atomic(5), atomic(5)],
+           arrow(3, 4, on(0)), arrow(6, 7, on(0))), [OFF, ON], 0, 0),
     # restless
     ("there and back on one event", sheet(1, TWO, GO, arrow(2, 1, on(0))), [OFF, ON], 9, 9),
     ("there, back, and there again", sheet(1, regions(2, 2), GO_2, arrow(3, 2, taken(0), on(0)), arrow(5, 6, taken(1))),

@@ -8,7 +8,9 @@ from pathlib import Path
 
 HERE = Path(__file__).resolve().parent.parent
 sys.path.insert(0, str(HERE.parent / "shared" / "oracle"))
-from modechart import bench, compile_sheet  # noqa: E402
+from modechart import Edition, asks_given, bench, compile_sheet  # noqa: E402
+
+EDITION = Edition.of(asks_given((HERE / "tools" / "landed.txt").read_text().strip()))
 
 EXAMPLE = [3, 1, 2, 1, 0, 1, 0, 0, 0, 0, 0, 0, 16, 4, 20, 4, 1, 2, 1, 0, 2, 1, 0, 2]
 
@@ -134,7 +136,7 @@ TEXTS = [
 def sizes_hold():
     """The charts above have the sets and words that their texts are named for, given room for them."""
     def sizes(words):
-        compiled = compile_sheet(words, [0] * 400000, [0] * 4095)
+        compiled = compile_sheet(words, [0] * 400000, [0] * 4095, EDITION)
         return compiled.listed, compiled.length
 
     return (sizes(full_table()) == (153, 8192) and sizes(full_table(ARROW)) == (153, 8193)
@@ -145,7 +147,7 @@ def main():
     assert sizes_hold()
     folder = HERE / "crates" / "refusals"
     (folder / "stdin").write_text(";".join(asked for _, asked in TEXTS))
-    (folder / "stdout").write_text("".join(str(bench(asked.encode())) for _, asked in TEXTS))
+    (folder / "stdout").write_text("".join(str(bench(asked.encode(), EDITION)) for _, asked in TEXTS))
 
 
 if __name__ == "__main__":

@@ -1,15 +1,15 @@
-"""Which wrong readings of document 01 no stored case sees.
+"""Which wrong readings of the documents no stored case sees.
 
     wrong_readings.py [NAME..]      all readings, or those of the functions so named, or "by hand"
     wrong_readings.py --small ..    without the cases that take the interpreter a second or more
 
-Each rule of the outside interpreter (shared/oracle/modechart.py) is broken in turn: comparisons weakened, strengthened
-and negated, numbers one more and one less, conditions made true and false, operands dropped, sets exchanged, one name
-taken for another, statements left out, guards exchanged; and readings written by hand (readings_by_hand.txt) for what
-needs more. Each wrong interpreter answers the cases of crates/conform/stdin until a line differs from
-crates/conform/stdout, and is then seen; so is one that stops with an error or takes too long. What no case can see
-stands in FORCED with the reason. The last line counts; one that is not seen and not forced, or forced and yet seen, is
-named before.
+Each rule of the outside interpreter (shared/oracle/modechart.py), in the edition that has landed (landed.txt), is broken
+in turn: comparisons weakened, strengthened and negated, numbers one more and one less, conditions made true and false,
+operands dropped, sets exchanged, one name taken for another, statements left out, guards exchanged; and readings written
+by hand (readings_by_hand.txt) for what needs more. Each wrong interpreter answers the cases of crates/conform/stdin until
+a line differs from crates/conform/stdout, and is then seen; so is one that stops with an error or takes too long. What no
+case can see stands in FORCED with the reason. The last line counts; one that is not seen and not forced, or forced and
+yet seen, is named before.
 """
 
 import ast
@@ -27,8 +27,12 @@ sys.path.insert(0, ORACLE)
 sys.dont_write_bytecode = True
 
 import answers  # noqa: E402
+from modechart import asks_given  # noqa: E402
 
-# the functions of document 01
+with open(os.path.join(HERE, "landed.txt")) as file:
+    LANDED = answers.Edition.of(asks_given(file.read().strip()))
+
+# the functions of document 01, and what of document 02 changes them
 FUNCTIONS = """
     bits mask_of Transition.is_delay Transition.delay Transition.is_timer Transition.alternatives Chart.children
     Chart.ancestors Chart.contains Chart.meeting Chart.within Chart.side Chart.completed Chart.consistent Chart.running
@@ -36,7 +40,7 @@ FUNCTIONS = """
     alternative_that_holds tick react conflict gives_way State.fresh readings_ok sheet_state_ok table_state_ok
     sheet_tick run_sheet cell_tick cell_numbers compile_sheet table_words table_layout_ok block_at timers_of delay_of
     cell_at table_tick run_table""".split()
-ELSEWHERE = {"ages", "aged", "somewhere"}           # names of document 02; and what an edition says
+ELSEWHERE = {"ages", "aged", "somewhere"}           # names of requests that have not landed
 CALLED = ["State", "check", "compile_sheet", "run_sheet", "run_table"]
 LARGE = 1.0                 # seconds from which a part of the cases is left out for forced readings
 
@@ -95,7 +99,7 @@ FORCED = {
         ("Chart.consistent", "m != 0", "m != 1"), ("Chart.consistent", "m != 0", "m != -1")],
     "a set without the root lacks a member's parent, or is 0; then the state is fresh or has a reading too many": [
         ("Chart.consistent", "0 not in modes", "False")],
-    "document 01 asks only whether an alternative holds, whether one gives way, and how many rounds there are": [
+    "it is asked only whether an alternative holds, whether one gives way, and how many rounds there are": [
         ("alternative_that_holds", "enumerate(tr.alternatives(), 1)", "enumerate(tr.alternatives(), 2)"),
         ("react", "[u for u in triggered if gives_way(chart, t, u, edition)]",
          "[t for u in triggered if gives_way(chart, t, u, edition)]"),
@@ -103,7 +107,7 @@ FORCED = {
         ("react", ROUND, "Round(triggered, gave_way, triggered)")],
     "as the rounds begin, active is the current modes": [
         ("tick", BEGIN, BEGIN.replace("modes", "active")), ("tick", BEGIN, BEGIN.replace("active", "modes"))],
-    "of the triggered the one with the outermost source does not give way": [
+    "of the triggered one with the highest meeting mode does not give way": [
         ("react", "not eligible", "not triggered")],
     "after the walk each listed set has its block": [
         ("compile_sheet", "len(masks)", "len(blocks)", 5), ("compile_sheet", "len(masks)", "len(blocks)", 6)],
@@ -114,11 +118,6 @@ FORCED = {
         ("run_table", "Ran(p, state, refusal)", "Ran(p, after, refusal)"),
         ("table_tick", "(15, None, state)", "(15, None, after)")],
     "no mode strictly contains itself": [("gives_way", "t == u", "False")],
-    "both meeting modes contain the inner source, so one is the other or contains it (DECISIONS, reading 6)": [
-        ("gives_way", "conflict(chart, t, u) and chart.contains(high.source, low.source)",
-         "chart.contains(high.source, low.source)"),
-        ("gives_way", "conflict(chart, t, u)", "conflict(chart, u, u)"),
-        ("gives_way", "conflict(chart, t, u)", "conflict(chart, t, t)")],
     "block 0 has no timers, so it has no state but the fresh one": [
         ("table_state_ok", "1 <= state.place < table[3]", "0 <= state.place < table[3]")],
     "four words have no room for a pair": [
@@ -148,10 +147,10 @@ FORCED_BY_HAND = {
         "the meeting mode is serial, and of its children only the one that holds the source is active (consistency)",
     "conflict is that both exit a mode":
         "the sources are active, so a meeting mode equal to or inside another lies in the other's active child",
-    "gives way without a conflict":
-        "both meeting modes contain the inner source, so one is the other or contains it (DECISIONS, reading 6)",
+    "conflict is equal meeting modes":
+        "of two eligible ones in conflict neither meeting mode strictly contains the other (ConflictIsEqual)",
     "gives way only to one that does not give way":
-        "whoever gives way does so to the outermost source too, and that one does not give way",
+        "whoever gives way does so to an eligible one too (EligibleOrGivesWay)",
     "the meeting mode has the highest number": "a mode's parent has a lower number, so the innermost has the highest",
     "a timer is due in the first round only":
         "a due timer is taken or gives way in the first round; its source is left either way (DECISIONS, reading 9)",
@@ -247,10 +246,51 @@ def is_test(node):
 
 
 def is_elsewhere(node):
-    """Does document 02 speak in this?"""
-    return any(getattr(inner, "id", getattr(inner, "attr", None)) in ELSEWHERE
-               or isinstance(inner, ast.Attribute) and getattr(inner.value, "id", None) == "edition"
-               for inner in ast.walk(node))
+    """Does a request speak in this that has not landed?"""
+    return any(getattr(inner, "id", getattr(inner, "attr", None)) in ELSEWHERE for inner in ast.walk(node))
+
+
+class Landing(ast.NodeTransformer):
+    """The interpreter of the landed edition alone: what asks for the edition is answered, what is never reached goes."""
+
+    def visit_Attribute(self, node):
+        if getattr(node.value, "id", None) == "edition":
+            return ast.copy_location(ast.Constant(getattr(LANDED, node.attr)), node)
+        return self.generic_visit(node)
+
+    def visit_UnaryOp(self, node):
+        self.generic_visit(node)
+        if isinstance(node.op, ast.Not) and is_answer(node.operand):
+            return ast.copy_location(ast.Constant(not node.operand.value), node)
+        return node
+
+    def visit_BoolOp(self, node):
+        self.generic_visit(node)
+        decides = isinstance(node.op, ast.Or)
+        values = [value for value in node.values if not (is_answer(value) and value.value != decides)]
+        if not values or is_answer(values[0]):
+            return ast.copy_location(ast.Constant(decides if values else not decides), node)
+        node.values = values
+        return node if len(values) > 1 else values[0]
+
+    def visit_IfExp(self, node):
+        self.generic_visit(node)
+        return (node.body if node.test.value else node.orelse) if is_answer(node.test) else node
+
+    def visit_If(self, node):
+        self.generic_visit(node)
+        return (node.body if node.test.value else node.orelse) if is_answer(node.test) else node
+
+    def visit_FunctionDef(self, node):
+        self.generic_visit(node)
+        ends = [place for place, child in enumerate(node.body) if isinstance(child, ast.Return)]
+        node.body = node.body[:ends[0] + 1] if ends else node.body
+        return node
+
+
+def is_answer(node):
+    """Does the edition answer this?"""
+    return isinstance(node, ast.Constant) and isinstance(node.value, bool)
 
 
 def moved(node, by):
@@ -325,7 +365,7 @@ def guard_text(node):
 
 
 def is_left_out(node):
-    """Is nothing of it changed? Texts, assertions, and what document 02 says."""
+    """Is nothing of it changed? Texts, assertions, and what requests say that have not landed."""
     if isinstance(node, (ast.arguments, ast.Assert)):
         return True
     if isinstance(node, ast.Expr) and isinstance(node.value, ast.Constant):
@@ -333,7 +373,7 @@ def is_left_out(node):
     if isinstance(node, (ast.If, ast.IfExp)):
         return is_elsewhere(node.test)
     if isinstance(node, (ast.stmt, ast.BoolOp)) and not isinstance(node, (ast.Assign, ast.AugAssign)):
-        return False                            # some part of it may be document 01's
+        return False                            # some part of it may have landed
     return isinstance(node, (ast.stmt, ast.expr)) and is_elsewhere(node)
 
 
@@ -395,7 +435,7 @@ def applied(edit):
 
 
 def functions(tree):
-    """The functions of document 01 by name."""
+    """The functions by name."""
     found = {}
     for node in tree.body:
         if isinstance(node, ast.FunctionDef):
@@ -407,7 +447,7 @@ def functions(tree):
 
 def readings(source, wanted):
     """(name, key, code) of each wrong reading; the key is what FORCED has."""
-    tree = ast.parse(source)
+    tree = Landing().visit(ast.parse(source))
     for name, function in functions(tree).items():
         if wanted and name not in wanted:
             continue
@@ -484,7 +524,7 @@ def trial(code, stored, order, limits, pipe):
             setattr(answers, name, getattr(module, name))
         for state["part"] in order:
             signal.setitimer(signal.ITIMER_VIRTUAL, limits[state["part"]])
-            if differs(stored[state["part"]], module.BASE):
+            if differs(stored[state["part"]], module.Edition(**vars(LANDED))):
                 end(SEEN)
     except BaseException:
         end(ERROR)
@@ -510,7 +550,7 @@ def measured(stored):
     times = []
     for part in stored:
         start = time.process_time()
-        assert not differs(part, answers.Edition()), "the interpreter itself does not give the stored answers"
+        assert not differs(part, LANDED), "the interpreter itself does not give the stored answers"
         times.append(time.process_time() - start)
     return times
 

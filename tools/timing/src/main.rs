@@ -57,17 +57,22 @@ struct Version<F> {
     call: F,
 }
 
+// The edition of the Rust version that has what of document 02 has landed.
+fn edition() -> Edition {
+    Edition::of(&asks_given(include_str!("../../landed.txt").trim()).unwrap())
+}
+
 fn rust_compile(sheet: &[u32], table: &mut [u32], work: &mut [u32]) -> (u32, usize, usize) {
-    let c = fast::compile(sheet, table, work);
+    let c = fast::compile_in(sheet, table, work, edition());
     (0, c.f, c.length)
 }
 
 fn rust_table_run(table: &[u32], inputs: &[u32], out: &mut [u32]) -> (u32, usize) {
-    (0, fast::run_table(table, TableState::FRESH, inputs, out).done)
+    (0, fast::run_table_in(table, TableState::FRESH, inputs, out, edition()).done)
 }
 
 fn rust_sheet_run(sheet: &[u32], inputs: &[u32], out: &mut [u32]) -> (u32, usize) {
-    (0, fast::run_sheet(sheet, SheetState::FRESH, inputs, out).done)
+    (0, fast::run_sheet_in::<u8>(sheet, SheetState::FRESH, inputs, out, &mut [], edition()).done)
 }
 
 fn compiles() -> Vec<Version<Compile>> {
@@ -113,7 +118,7 @@ fn print_row<F>(chart: &str, unit: &str, versions: &[Version<F>], amount: f64, t
 
 fn compiled(name: &'static str, sheet: Vec<u32>, budget: f64) -> Chart {
     let versions = compiles();
-    let length = fast::compile(&sheet, &mut vec![0u32; 80 << 20], &mut vec![0u32; 4095]).length;
+    let length = rust_compile(&sheet, &mut vec![0u32; 80 << 20], &mut vec![0u32; 4095]).2;
     let mut lent: Vec<_> = versions.iter().map(|_| (vec![0u32; length], vec![0u32; 4095])).collect();
     let answers: Vec<_> = versions.iter().zip(&mut lent).map(|(v, (table, work))| (v.call)(&sheet, table, work)).collect();
     assert!(answers.iter().all(|a| *a == answers[0]) && lent.iter().all(|l| *l == lent[0]));
