@@ -43,7 +43,7 @@ single-if-requires c κs = omega arith
 gives-way-requires : tie.Need-gives-way-requires Inv-loop μ-loop
 gives-way-requires c κs =
     let b = c .before .before .before .before .before .before in
-    (b .pre .0, b .pre .1, b .pre .2, omega arith, b .pre .3)
+    (b .pre .0, b .pre .1, b .pre .2, omega arith, omega arith)
 
 single-if-requires-2 : tie.Need-single-if-requires-2 Inv-loop μ-loop
 single-if-requires-2 c κs = omega arith
