@@ -52,6 +52,8 @@ OR_RULE = "value == 0 and 0 < place < len(kinds) - 1 and (kinds[place - 1] != 7)
 ORDERED = "the tests before it have answered every other number that the change lets in"
 CHECKED = "the check has refused every other kind"
 BEGIN = "react(chart, modes, readings, given, entered, exited, active, taken, edition)"
+EQUAL = "two eligible ones in conflict have equal meeting modes (ConflictIsEqual)"
+CONFLICT = "ma == mb or chart.contains(ma, mb) or chart.contains(mb, ma)"
 ROUND = "Round(triggered, gave_way, eligible)"
 FORCED = {
     ORDERED: [
@@ -118,6 +120,13 @@ FORCED = {
         ("run_table", "Ran(p, state, refusal)", "Ran(p, after, refusal)"),
         ("table_tick", "(15, None, state)", "(15, None, after)")],
     "no mode strictly contains itself": [("gives_way", "t == u", "False")],
+    EQUAL: [
+        ("conflict", CONFLICT, CONFLICT.replace(" or chart.contains(ma, mb)", "")),
+        ("conflict", CONFLICT, CONFLICT.replace(" or chart.contains(mb, ma)", "")),
+        ("conflict", "chart.contains(ma, mb)", "chart.contains(mb, mb)"),
+        ("conflict", "chart.contains(ma, mb)", "chart.contains(ma, ma)"),
+        ("conflict", "chart.contains(mb, ma)", "chart.contains(ma, ma)"),
+        ("conflict", "chart.contains(mb, ma)", "chart.contains(mb, mb)")],
     "block 0 has no timers, so it has no state but the fresh one": [
         ("table_state_ok", "1 <= state.place < table[3]", "0 <= state.place < table[3]")],
     "four words have no room for a pair": [
@@ -147,8 +156,7 @@ FORCED_BY_HAND = {
         "the meeting mode is serial, and of its children only the one that holds the source is active (consistency)",
     "conflict is that both exit a mode":
         "the sources are active, so a meeting mode equal to or inside another lies in the other's active child",
-    "conflict is equal meeting modes":
-        "of two eligible ones in conflict neither meeting mode strictly contains the other (ConflictIsEqual)",
+    "conflict is equal meeting modes": EQUAL,
     "gives way only to one that does not give way":
         "whoever gives way does so to an eligible one too (EligibleOrGivesWay)",
     "the meeting mode has the highest number": "a mode's parent has a lower number, so the innermost has the highest",
