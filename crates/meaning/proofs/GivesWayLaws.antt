@@ -1,14 +1,14 @@
 -- Laws of giving way and of what is eligible among some transitions. Assumes nothing.
-use mathlib.Core.Path.{_≡_, refl, sym, subst}
+use mathlib.Core.Path.{_≡_, refl, sym, subst, ap}
 use mathlib.Core.Logic.{_⊎_, inl, inr, ⊎-elim}
-use mathlib.Core.Bool.{Bool, true, false, not}
+use mathlib.Core.Bool.{Bool, true, false, not, _&&_, _||_}
 use mathlib.Core.List.{List}
 use Prim.Native.Nat.{ℕ, zero, suc, _<_}
 use native.Mathlib.Nat.{le-refl, lt-of-lt-of-le, not-suc-le-zero, le-of-suc-le-suc}
-use lib.Dec.{T, eqb, T-not}
+use lib.Dec.{T, eqb, T-not, not-T, eqb→eq}
 use borrow.Author.Tests.{eqb-true, eq-eqb}
 use Rattle.sets.specs.Sets.{has, someIn}
-use Rattle.sets.proofs.Tests.{is-true, is-false, of-true, and-i, and-r, or-e, or-l, or-r, eqb-sym}
+use Rattle.sets.proofs.Tests.{is-true, is-false, of-true, and-i, and-r, or-e, or-l, or-r, eqb-sym, and-l}
 use Rattle.sets.proofs.Facts.{those-e, those-i, someIn-e, someIn-i}
 use Rattle.meaning.specs.Sheet.{tOf, contains, strictlyContains, meeting}
 use Rattle.meaning.specs.GivesWay.{givesWay}
@@ -36,6 +36,21 @@ unfolding conflict givesWay strictlyContains
 one-gives-way s t u h n =
     ⊎-elim (λ c. inr (and-i (not (eqb p q)) (contains s p q) (rw n tt) c)) (λ c. inl (and-i (not (eqb q p)) (contains s q p) (rw (eqb-sym q p, n) tt) c))
     (or-e (contains s p q) (contains s q p) h)
+  where
+    p : ℕ
+    p = meeting s t
+
+    q : ℕ
+    q = meeting s u
+
+-- so one that is not another in conflict with t does not give way to t
+pub no-conflict-stays : (s : List ℕ) (t u : ℕ) → (not (eqb t u) && conflict s t u) ≡ false → givesWay s u t ≡ false
+unfolding conflict givesWay strictlyContains
+no-conflict-stays s t u e =
+    is-false (not (eqb p q) && contains s p q) (λ g.
+    subst T e (and-i (not (eqb t u)) (contains s p q || contains s q p)
+    (not-T (eqb t u) (λ k. T-not (eqb p q) (and-l (not (eqb p q)) (contains s p q) g) (of-true (eq-eqb p q (ap (meeting s) (eqb→eq t u k))))))
+    (or-l (contains s p q) (contains s q p) (and-r (not (eqb p q)) (contains s p q) g))))
   where
     p : ℕ
     p = meeting s t

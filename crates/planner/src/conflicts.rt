@@ -96,8 +96,10 @@ fn opposed_to(sheet: &[u32], inside: &[u32; 32], meets: &[usize; 64], t: usize) 
     let mut yielders = 0u64;
     let mut u = 0;
     while u < count {
-        conflicts |= transitions::single_if(is_conflict(sheet, inside, meets, t, u), u);
-        yielders |= transitions::single_if(gives_way(sheet, inside, meets, u, t), u);
+        if is_conflict(sheet, inside, meets, t, u) {
+            conflicts |= transitions::single(u);
+            yielders |= transitions::single_if(gives_way(sheet, inside, meets, u, t), u);
+        }
         u += 1;
     }
     Opposed {
