@@ -491,7 +491,7 @@ module _ (s : List ℕ) (sd : Sound s) where
 
   -- ---- a tick
 
-  -- an eligible transition's source is in the set
+  -- a triggered transition's source is in the set, and so is an eligible one's
   pub source-on : (z : TickSets) (d i t : ℕ) → T (ltb 0 (trigger s d i z t)) → T (has (z .modes) (source s t))
   unfolding trigger
   source-on z d i t h = go (has (z .modes) (source s t)) h
