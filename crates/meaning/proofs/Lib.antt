@@ -28,5 +28,6 @@ pub mod HighestLevel
 pub mod TableFaithful
 pub mod TableSound
 pub mod CompiledLaws
+pub mod MillisecondsLaws
 pub mod Bounds
 pub mod Theorem

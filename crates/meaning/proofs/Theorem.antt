@@ -14,6 +14,7 @@ use Rattle.meaning.proofs.ServedLaws.{served-from-power-on}
 use Rattle.meaning.proofs.WholeListLaws.{served-each}
 use Rattle.meaning.proofs.StateLaws.{sheet-state-stays, table-state-stays, sheet-runs-on, table-runs-on, faithful-not-stale}
 use Rattle.meaning.proofs.HighestLevel.{highest-level-first}
+use Rattle.meaning.proofs.MillisecondsLaws.{whole-delay, rest-below, ticks-fit}
 use Rattle.meaning.proofs.SheetLaws.{sound}
 use Rattle.meaning.proofs.CompiledLaws.{compiled-faithful-from, compiled-passes}
 
@@ -59,4 +60,7 @@ promised =
       compiledFaithful = compiled-faithful;
       faithfulServes = faithful-serves;
       highestLevelFirst = highest-level-first;
+      wholeDelay = whole-delay;
+      restBelow = rest-below;
+      ticksFit = ticks-fit;
     }

@@ -11,6 +11,7 @@ use Rattle.meaning.specs.SheetRun.{sheetRun}
 use Rattle.meaning.specs.Table.{tableOk}
 use Rattle.meaning.specs.TableRun.{tableRun}
 use Rattle.meaning.specs.Compile.{compile}
+use Rattle.meaning.specs.Milliseconds.{milliseconds}
 use Rattle.meaning.specs.Faithful.{faithful}
 use Rattle.meaning.specs.Charts.{atomic, serial, parallel, after, present, absent, taken, transition, sheetOf, rings}
 use Rattle.meaning.specs.Opened.{opened}
@@ -156,6 +157,12 @@ pub record Examples : Type 0 where
   pub level-lowest : first-tick three-levels 1 ≡ 1979 ∷ 512 ∷ 1979 ∷ 1 ∷ 0 ∷ []
   pub level-middle : first-tick three-levels 3 ≡ 1019 ∷ 928 ∷ 1019 ∷ 2 ∷ 0 ∷ []
   pub level-highest : first-tick three-levels 7 ≡ 959 ∷ 954 ∷ 959 ∷ 4 ∷ 0 ∷ []
+  -- Ask 7: a delay shorter than the tick is 0 ticks; 12 before 20; tick lengths of 0; 65,535 ticks and one more; words past the delays' stay
+  pub in-ticks : milliseconds 100 (250 ∷ 99 ∷ 300 ∷ []) (lent 7) ≡ record { refusal = 0; results = 2 ∷ 50 ∷ 0 ∷ 99 ∷ 3 ∷ 0 ∷ 7 ∷ [] }
+  pub results-short : milliseconds 0 (250 ∷ []) (lent 1) ≡ record { refusal = 12; results = lent 1 }
+  pub tick-of-0 : milliseconds 0 [] (lent 1) ≡ record { refusal = 20; results = lent 1 }
+  pub most-ticks : milliseconds 10 (5 ∷ 655359 ∷ []) (lent 4) ≡ record { refusal = 0; results = 0 ∷ 5 ∷ 65535 ∷ 9 ∷ [] }
+  pub too-many-ticks : milliseconds 10 (5 ∷ 655360 ∷ []) (lent 4) ≡ record { refusal = 20; results = lent 4 }
   -- taken, triggered again and giving way: not among the document's examples
   pub outer-taken : sheetRun outer-first powerOn (0 ∷ 1 ∷ []) (lent 10) .out ≡ 7 ∷ 0 ∷ 7 ∷ 0 ∷ 0 ∷ 28 ∷ 14 ∷ 31 ∷ 7 ∷ 0 ∷ []
   -- sets as the round began, and a round against a step of document 002: not among the document's examples either
@@ -195,6 +202,11 @@ examples =
       level-lowest = refl;
       level-middle = refl;
       level-highest = refl;
+      in-ticks = refl;
+      results-short = refl;
+      tick-of-0 = refl;
+      most-ticks = refl;
+      too-many-ticks = refl;
       outer-taken = refl;
       judged-as-began = refl;
       round-not-step = refl;

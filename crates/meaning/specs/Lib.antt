@@ -11,6 +11,7 @@ pub mod SheetRun
 pub mod Table
 pub mod TableRun
 pub mod Compile
+pub mod Milliseconds
 pub mod Refusal
 pub mod TickInWords
 pub mod OneByOne

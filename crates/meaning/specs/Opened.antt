@@ -14,6 +14,7 @@ use Rattle.meaning.specs.SheetRun.{stateOk, tickFrom, stateAfter, sheetS
 use Rattle.meaning.specs.Table.{wordIn, kIn, tIn, bIn, sourceIn, delayIn, offsetIn, lengthIn, endBeforeIn, maskIn, timersIn, cellsIn, cellWord, timerOk, blockOk, tableOk}
 use Rattle.meaning.specs.TableRun.{dueNumber, tableStateOk, cellOf, stateAfterCell, isStale, tableStep, tableRun}
 use Rattle.meaning.specs.Compile.{dueSet, pairsFrom, workListFull, timersMany, cellCount, cellTick, listing, cellsFrom, walkFrom, walk, timerWord, cellWords, blockWords, tableWords, compileRefusal, compile}
+use Rattle.meaning.specs.Milliseconds.{ticksAndRests, resultsShort, ticksOutOfRange, milliseconds}
 use Rattle.meaning.specs.Faithful.{cellFaithful, blockFaithful, faithful}
 
 unfoldable in-sets : Unit {0}
@@ -68,10 +69,14 @@ unfoldable in-compile : Unit {0}
 unfolding dueSet pairsFrom workListFull timersMany cellCount cellTick listing cellsFrom walkFrom walk timerWord cellWords blockWords tableWords compileRefusal compile
 in-compile = tt
 
+unfoldable in-milliseconds : Unit {0}
+unfolding ticksAndRests resultsShort ticksOutOfRange milliseconds
+in-milliseconds = tt
+
 unfoldable in-faithful : Unit {0}
 unfolding cellFaithful blockFaithful faithful
 in-faithful = tt
 
 unfoldable pub opened : Unit {0}
-unfolding in-sets in-lists in-sheet in-check in-hierarchy in-gives-way in-reaction in-tick in-run in-sheet-run in-table in-table-run in-compile in-faithful
+unfolding in-sets in-lists in-sheet in-check in-hierarchy in-gives-way in-reaction in-tick in-run in-sheet-run in-table in-table-run in-compile in-milliseconds in-faithful
 opened = tt

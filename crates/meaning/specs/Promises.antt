@@ -23,6 +23,7 @@ use Rattle.meaning.specs.OneByOne.{Reaction, isTriggered, eligibleIn, ta
 use Rattle.meaning.specs.Compile.{walkFrom, walk}
 use Rattle.meaning.specs.Faithful.{faithful, FaithfulServes, CompiledFaithful}
 use Rattle.meaning.specs.HighestLevelFirst.{HighestLevelFirst}
+use Rattle.meaning.specs.Milliseconds.{WholeDelay, RestBelow, TicksFit}
 
 -- a tick from power-on or from a consistent set leaves a consistent set
 unfoldable pub KeepsConsistent : Type 0
@@ -137,3 +138,6 @@ pub record Promised : Type 0 where
   pub compiledFaithful : CompiledFaithful
   pub faithfulServes : FaithfulServes
   pub highestLevelFirst : HighestLevelFirst
+  pub wholeDelay : WholeDelay
+  pub restBelow : RestBelow
+  pub ticksFit : TicksFit

@@ -1,7 +1,7 @@
 -- The number of each refusal, by who causes it, with the definition that is its condition. Assumes nothing.
 use Prim.Native.Nat.{ℕ}
 use Rattle.meaning.specs.declared.refusal.Refusal.{Refusal}
-use Rattle.meaning.specs.declared.refusal.Refusal.the-variants.{Nothing, Head, ModeRow, Pair, Ends, Term, SharedEnds, TooManyTimers, Ambiguous, Restless, ShortTable, FullWorkList, ShortOutput, InputSet, State, Layout}
+use Rattle.meaning.specs.declared.refusal.Refusal.the-variants.{Nothing, Head, ModeRow, Pair, Ends, Term, SharedEnds, TooManyTimers, Ambiguous, Restless, ShortTable, FullWorkList, ShortOutput, InputSet, State, Layout, TickRange}
 
 abbrev pub numberOf : Refusal → ℕ
 numberOf Nothing = 0
@@ -16,7 +16,8 @@ numberOf SharedEnds = 6
 numberOf TooManyTimers = 7
 numberOf Ambiguous = 8
 numberOf Restless = 9
--- whoever lends memory: a table slice shorter than `tableWords`, `workListFull` (Compile), `outputShort` (Run)
+-- whoever lends memory: a table slice shorter than `tableWords`, `workListFull` (Compile), `outputShort` (Run),
+-- `resultsShort` (Milliseconds)
 numberOf ShortTable = 10
 numberOf FullWorkList = 11
 numberOf ShortOutput = 12
@@ -25,3 +26,5 @@ numberOf InputSet = 13
 numberOf State = 14
 -- whoever brings a table: `tableOk` (Table) fails, or `isStale` (TableRun) at a tick
 numberOf Layout = 15
+-- whoever converts milliseconds: `ticksOutOfRange` (Milliseconds)
+numberOf TickRange = 20

@@ -1,4 +1,4 @@
-// Why a call is refused, and the number that document 01 gives it.
+// Why a call is refused, and the number that the documents give it.
 ghost use mathlib.Core.Path.{_≡_};
 ghost use Rattle.meaning.specs.Refusal.{numberOf};
 
@@ -19,6 +19,7 @@ pub enum Refusal {
     InputSet,
     State,
     Layout,
+    TickRange,
 }
 
 // The number of a refusal, 0 for none.
@@ -42,5 +43,6 @@ pub fn number(why: Refusal) -> u32
         Refusal::InputSet => 13,
         Refusal::State => 14,
         Refusal::Layout => 15,
+        Refusal::TickRange => 20,
     }
 }

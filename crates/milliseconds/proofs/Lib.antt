@@ -1,0 +1,2 @@
+-- Laws of the conversion's three functions.
+pub mod ConversionLaws
