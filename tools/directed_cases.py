@@ -605,6 +605,40 @@ LARGE_COMPILES = [
 ]
 
 
+# ---------------------------------------------------------------- delays in milliseconds
+
+# a name, the refusal, the tick length, the delays, the result words
+CONVERSIONS = [
+    ("no delay and no word", 0, 100, [], 0),
+    ("no delay, words left as they are", 0, 100, [], 3),
+    ("no delay, a tick length of 0", 20, 0, [], 0),
+    ("two words for a delay", 0, 100, [250], 2),
+    ("one word for a delay", 12, 100, [250], 1),
+    ("no word for a delay", 12, 100, [250], 0),
+    ("a word more", 0, 100, [250], 3),
+    ("three words for two delays", 12, 100, [250, 70], 3),
+    ("four words for two delays", 0, 100, [250, 70], 4),
+    ("12 and a tick length of 0", 12, 0, [250], 1),
+    ("12 and too many ticks", 12, 1, [65536], 1),
+    ("a tick length of 0", 20, 0, [250], 2),
+    ("a delay of 0", 0, 100, [0], 2),
+    ("a delay of a tick less 1, a tick, a tick and 1", 0, 100, [99, 100, 101], 6),
+    ("a multiple of the tick, and 1 less", 0, 250, [1000, 999], 4),
+    ("a tick of 1: 65,535 ticks", 0, 1, [65535], 2),
+    ("a tick of 1: 65,536 ticks", 20, 1, [65536], 2),
+    ("65,535 ticks and the largest rest", 0, 10, [655359], 2),
+    ("65,536 ticks", 20, 10, [655360], 2),
+    ("65,536 ticks in the last place", 20, 10, [5, 70, 655360], 6),
+    ("65,536 ticks in the middle", 20, 10, [5, 655360, 70], 6),
+    ("65,536 ticks in the first place", 20, 10, [655360, 5, 70], 6),
+    ("65,535 ticks in all places", 0, 10, [655359, 655350, 655355], 6),
+    ("a delay of 2^32 - 1 and 65,535 ticks", 0, 65536, [TOP], 2),
+    ("a delay of 2^32 - 1 and 65,537 ticks", 20, 65535, [TOP], 2),
+    ("a tick of 2^31", 0, 2 ** 31, [TOP, 2 ** 31, 2 ** 31 - 1], 6),
+    ("a tick of 2^32 - 1", 0, TOP, [TOP, TOP - 1], 4),
+]
+
+
 # ---------------------------------------------------------------- the stream
 
 def state_numbers(state):
@@ -677,6 +711,8 @@ def stream():
     yield from tick_cases()
     yield from compile_cases(COMPILES)
     yield from compile_cases(LARGE_COMPILES)
+    for name, refusal, tick, delays, results in CONVERSIONS:
+        yield name, "milliseconds", refusal, [17, tick, len(delays), *delays, results]
 
 
 def main(words):

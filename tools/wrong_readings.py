@@ -3,8 +3,8 @@
     wrong_readings.py [NAME..]      all readings, or those of the functions so named, or "by hand"
     wrong_readings.py --small ..    without the cases that take the interpreter a second or more
 
-Each rule of the outside interpreter (shared/oracle/modechart.py), in the edition that has landed (landed.txt), is broken
-in turn: comparisons weakened, strengthened and negated, numbers one more and one less, conditions made true and false,
+Each rule of the outside interpreter (shared/oracle: modechart.py, asks.py), in the edition that has landed (landed.txt),
+is broken in turn: comparisons weakened, strengthened and negated, numbers one more and one less, conditions made true and false,
 operands dropped, sets exchanged, one name taken for another, statements left out, guards exchanged; and readings written
 by hand (readings_by_hand.txt) for what needs more. Each wrong interpreter answers the cases of crates/conform/stdin until
 a line differs from crates/conform/stdout, and is then seen; so is one that stops with an error or takes too long. What no
@@ -19,6 +19,7 @@ import signal
 import sys
 import time
 import types
+from itertools import chain
 
 HERE = os.path.dirname(os.path.abspath(__file__))
 ORACLE = os.path.join(HERE, "..", "..", "shared", "oracle")
@@ -32,7 +33,7 @@ from modechart import asks_given  # noqa: E402
 with open(os.path.join(HERE, "landed.txt")) as file:
     LANDED = answers.Edition.of(asks_given(file.read().strip()))
 
-# the functions of document 01, and what of document 02 changes them
+# the functions of document 01, and what of document 02 changes them; the functions that document 02 adds
 FUNCTIONS = """
     bits mask_of Transition.is_delay Transition.delay Transition.is_timer Transition.alternatives Chart.children
     Chart.ancestors Chart.contains Chart.meeting Chart.within Chart.side Chart.completed Chart.consistent Chart.running
@@ -41,7 +42,8 @@ FUNCTIONS = """
     sheet_tick run_sheet cell_tick cell_numbers compile_sheet table_words table_layout_ok block_at timers_of delay_of
     cell_at table_tick run_table""".split()
 ELSEWHERE = {"ages", "aged", "somewhere"}           # names of requests that have not landed
-CALLED = ["State", "check", "compile_sheet", "run_sheet", "run_table"]
+ADDED = ["milliseconds"]
+CALLED = {"modechart.py": ["State", "check", "compile_sheet", "run_sheet", "run_table"], "asks.py": ADDED}
 LARGE = 1.0                 # seconds from which a part of the cases is left out for forced readings
 
 
@@ -185,10 +187,12 @@ def parts():
         elif case in (2, 4):
             at += 3 + 2 * numbers[at + 2]
             at += 2 + numbers[at]
+        elif case == 17:
+            at += 4 + numbers[at + 2]
         else:
             at += {3: 3, 5: 3, 6: 2}[case]
         found[-1][0].extend(numbers[start:at])
-        if case < 5:
+        if case in (1, 2, 3, 4, 17):
             found[-1][1].append(lines[answered])
             answered += 1
     assert answered == len(lines)
@@ -450,11 +454,11 @@ def functions(tree):
             found[node.name] = node
         elif isinstance(node, ast.ClassDef):
             found.update({f"{node.name}.{f.name}": f for f in node.body if isinstance(f, ast.FunctionDef)})
-    return {name: found[name] for name in FUNCTIONS}
+    return {name: found[name] for name in FUNCTIONS + ADDED if name in found}
 
 
-def readings(source, wanted):
-    """(name, key, code) of each wrong reading; the key is what FORCED has."""
+def readings(file, source, wanted):
+    """(name, key, code) of each wrong reading of a file by a rule; the key is what FORCED has."""
     tree = Landing().visit(ast.parse(source))
     for name, function in functions(tree).items():
         if wanted and name not in wanted:
@@ -469,16 +473,20 @@ def readings(source, wanted):
                 keys[before, after] = keys.get((before, after), 0) + 1
                 number = keys[before, after]
                 key = (name, before, after) if number == 1 else (name, before, after, number)
-                yield name, key, compile(tree, "modechart.py", "exec")
+                yield name, key, compile(tree, file, "exec")
             undo()
+
+
+def readings_by_hand(file, source, wanted):
+    """The same of the readings written by hand."""
     for name, changes in by_hand():
-        if wanted and name not in wanted and "by hand" not in wanted:
+        if file != "modechart.py" or wanted and name not in wanted and "by hand" not in wanted:
             continue
         text = "\n" + source
         for old, new in changes:
             assert text.count(old) == 1, f"{name}: does not stand once in the interpreter:\n{old}"
             text = text.replace(old, new)
-        yield "by hand", name, compile(text, "modechart.py", "exec")
+        yield "by hand", name, compile(text, file, "exec")
 
 
 def by_hand():
@@ -528,11 +536,11 @@ def trial(code, stored, order, limits, pipe):
         signal.setitimer(signal.ITIMER_VIRTUAL, 5)
         exec(code, module.__dict__)
         module.parse = parsed_once(module.parse)
-        for name in CALLED:
+        for name in CALLED[code.co_filename]:
             setattr(answers, name, getattr(module, name))
         for state["part"] in order:
             signal.setitimer(signal.ITIMER_VIRTUAL, limits[state["part"]])
-            if differs(stored[state["part"]], module.Edition(**vars(LANDED))):
+            if differs(stored[state["part"]], LANDED):
                 end(SEEN)
     except BaseException:
         end(ERROR)
@@ -565,18 +573,22 @@ def measured(stored):
 
 def main(words):
     wanted = [word for word in words if word != "--small"]
-    with open(os.path.join(ORACLE, "modechart.py")) as file:
-        source = file.read()
+    sources = {}
+    for name in CALLED:
+        with open(os.path.join(ORACLE, name)) as file:
+            sources[name] = file.read()
     stored = parts()
     times = measured(stored)
     limits = [5 + 10 * t for t in times]
     cheap = sorted(range(len(stored)), key=lambda i: times[i])
     forced = {key: reason for reason, keys in FORCED.items() for key in keys} | FORCED_BY_HAND
-    how, part = tried(compile(source, "modechart.py", "exec"), stored, cheap, limits)
-    assert not how, f"the interpreter itself is seen by part {part}"
+    for name, source in sources.items():
+        how, part = tried(compile(source, name, "exec"), stored, cheap, limits)
+        assert not how, f"the interpreter itself is seen by part {part}"
     lately = {}                                 # the parts that saw readings of the same function, the latest first
     counts, unseen = {0: 0, SEEN: 0, ERROR: 0, SLOW: 0, "forced": 0}, 0
-    for name, key, code in readings(source, wanted):
+    for name, key, code in chain.from_iterable(
+            chain(readings(file, source, wanted), readings_by_hand(file, source, wanted)) for file, source in sources.items()):
         first = lately.setdefault(name, [])
         order = first + [i for i in cheap if i not in first]
         if key in forced or "--small" in words:

@@ -5,6 +5,7 @@ ghost use Rattle.conform.specs.Steps.{Within};
 
 mod cases;
 mod compile_case;
+mod milliseconds_case;
 mod table_case;
 mod text;
 
@@ -110,6 +111,30 @@ fn answer_table(buf: &mut [u8; 65536], table: &mut [u32], kind: u32, from: Left)
             let length = read.words;
             next(read.input, words, length, length)
         }
+        _ => answer_other(
+            buf,
+            kind,
+            Left {
+                input,
+                words,
+                lent,
+                length,
+            },
+        ),
+    }
+}
+
+// A case that has nothing to do with the current sheet and table.
+fn answer_other(buf: &mut [u8; 65536], kind: u32, from: Left) -> Step
+    requires { ⌜ from .length ≤ from .lent ⌝ }
+    ensures { λ r. ⌜ Within r (from .words) (from .lent) ⌝ }
+{
+    let words = from.words;
+    let lent = from.lent;
+    let length = from.length;
+    let input = from.input;
+    match kind {
+        17 => next(milliseconds_case::convert(buf, input), words, lent, length),
         _ => Step::Done,
     }
 }

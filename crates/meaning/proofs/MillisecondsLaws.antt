@@ -1,20 +1,20 @@
 -- Delays in milliseconds: each delay's two words, and the three promises. Assumes nothing.
-use mathlib.Core.Path.{_≡_, refl, sym, ap, _∙_, subst}
-use mathlib.Core.Logic.{_⊎_, inl, inr}
-use mathlib.Core.Bool.{Bool, true, false, _||_, cond}
+use mathlib.Core.Path.{_≡_, refl, sym, _∙_}
+
+use mathlib.Core.Bool.{Bool, false, _||_}
 use mathlib.Core.List.{List, [], _∷_, _++_}
 use Prim.Native.Nat.{ℕ, zero, suc, _+_, _*_, _/_, _%_, _≤_, _<_}
 use native.Mathlib.Nat.{mod-lt, div-add-mod', not-suc-le-zero, le-of-suc-le-suc}
 use native.Mathlib.Omega.{arith}
-use lib.Dec.{T, eqb, ltb}
+use lib.Dec.{eqb, ltb}
 use lib.ListN.{length, getD}
 use borrow.Author.Tests.{eqb-false, ltb-false}
 use Rattle.sets.specs.Sets.{some}
-use Rattle.sets.proofs.Tests.{is-false, of-true, or-l, or-r, of-false}
+use Rattle.sets.proofs.Tests.{is-false, or-l, or-r, of-false}
 use Rattle.sets.proofs.Facts.{some-i}
-use Rattle.meaning.specs.Lists.{overwritten, refusedIf, firstRefusal}
+use Rattle.meaning.specs.Lists.{overwritten, refusedIf}
 use Rattle.meaning.proofs.RefusalLaws.{none-met, first-alone, unmet}
-use Rattle.meaning.specs.Milliseconds.{ticksAndRests, resultsShort, ticksOutOfRange, milliseconds, WholeDelay, RestBelow, TicksFit}
+use Rattle.meaning.specs.Milliseconds.{ticksAndRests, ticksOutOfRange, milliseconds, WholeDelay, RestBelow, TicksFit}
 
 pub ticks-length : (tick : ℕ) (ds : List ℕ) → length (ticksAndRests tick ds) ≡ 2 * length ds
 unfolding ticksAndRests
@@ -38,7 +38,7 @@ module _ (tick : ℕ) (delays results : List ℕ) (h : milliseconds tick delays 
   in-range : ticksOutOfRange tick delays ≡ false
   unfolding milliseconds
   in-range =
-      let later = none-met (refusedIf (resultsShort delays results) 12) (refusedIf (ticksOutOfRange tick delays) 20 ∷ []) h .1 in
+      let later = none-met _ (refusedIf (ticksOutOfRange tick delays) 20 ∷ []) h .1 in
       unmet (ticksOutOfRange tick delays) 20 (λ k. omega arith) (sym (first-alone (refusedIf (ticksOutOfRange tick delays) 20)) ∙ later)
 
   tick-pos : 0 < tick

@@ -1,5 +1,5 @@
 -- The longest delay, the words put pair by pair, and the conversion's answer. Assumes nothing.
-use mathlib.Core.Path.{_≡_, refl, sym, ap, ap₂, _∙_}
+use mathlib.Core.Path.{_≡_, refl, sym, ap, _∙_}
 use mathlib.Core.Logic.{⊎-elim, _↔_}
 use mathlib.Core.Bool.{Bool, true, false, _||_, or-comm}
 use mathlib.Core.List.{List, [], _∷_}
@@ -7,12 +7,12 @@ use Prim.Native.Nat.{ℕ, suc, _+_, _-_, _*_, _/_, _%_, _≤_, _<_, zero-le}
 use native.Mathlib.Nat.{le-div-iff-mul-le, lt-of-lt-of-le, le-of-lt, mul-pos}
 use native.Mathlib.Numerals.{add-one}
 use native.Mathlib.Omega.{arith}
-use lib.Dec.{T, eqb, ltb, lt→ltb, ltb→lt}
+use lib.Dec.{ltb, lt→ltb, ltb→lt}
 use lib.ListN.{length, getD, drop}
 use lib.Seq.{drop-cons, drop-length}
 use borrow.Author.Tests.{eq-eqb, ne-eqb, lt-ltb, le-ltb}
 use Rattle.sets.specs.Sets.{some}
-use Rattle.sets.proofs.Tests.{bool-ext, or-e, or-l, or-r}
+use Rattle.sets.proofs.Tests.{bool-ext, or-e, or-l}
 use Rattle.sets.proofs.Quantifiers.{some-same}
 use Rattle.rows.specs.Over.{over}
 use Rattle.rows.proofs.OverLaws.{over-nil, over-front, over-more}

@@ -5,6 +5,7 @@ ghost use mathlib.Core.Path.{_≡_};
 ghost use mathlib.Core.Bool.{cond};
 ghost use Rattle.meaning.specs.Check.{sheetRefusal};
 ghost use Rattle.meaning.specs.Table.{tableOk};
+ghost use Rattle.meaning.specs.Milliseconds.{milliseconds};
 ghost use Rattle.native.specs.Calls.{compileCall, sheetCall, tableCall};
 use meaning::refusal::number;
 use run::state::STATE_WORDS;
@@ -50,6 +51,14 @@ pub extern "C" fn modechart_check_table(table: &[u32]) -> u32
         return 0;
     }
     15
+}
+
+#[no_mangle]
+pub extern "C" fn modechart_milliseconds(tick: u32, delays: &[u32], results: &mut [u32]) -> u32
+    ensures { λ r. ⌜ record { refusal = r; results = now (results .exit) }
+        ≡ milliseconds tick (now (delays .entry)) (now (results .entry)) ⌝ }
+{
+    number(milliseconds::in_ticks(tick, delays, results))
 }
 
 // info: ticks done, the total of rounds (whole times 2^32, and the rest).

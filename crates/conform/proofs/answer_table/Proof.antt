@@ -45,6 +45,9 @@ read-words-requires c κs = search needs
 next-requires-4 : tie.Need-next-requires-4
 next-requires-4 c κs = search needs
 
+answer-other-requires : tie.Need-answer-other-requires
+answer-other-requires c κs = search needs
+
 same-length : tie.Need-same-length
 same-length c = search needs
 
@@ -67,12 +70,12 @@ returns-4 : tie.Need-returns-4
 returns-4 c = search (needs, within-le)
 
 returns-5 : tie.Need-returns-5
-returns-5 c = search needs
+returns-5 c = search (needs, within-le)
 
 pub answer-table-spec : {M : Type 1} → statement M
 answer-table-spec =
     tie.close
     (tie.spec slice-reshare-prefix-table-run slice-aggregate-table-run table-run-requires next-requires
     slice-relend-prefix-write-word slice-aggregate-write-word write-word-requires next-requires-2 number-requires
-    at-most-requires next-requires-3 read-words-requires next-requires-4 same-length returns same-length-2 returns-2
-    returns-3 same-length-3 returns-4 returns-5)
+    at-most-requires next-requires-3 read-words-requires next-requires-4 answer-other-requires same-length returns
+    same-length-2 returns-2 returns-3 same-length-3 returns-4 returns-5)
