@@ -1,7 +1,6 @@
 -- Delays in milliseconds: each delay's two words, and the three promises. Assumes nothing.
 use mathlib.Core.Path.{_≡_, refl, sym, _∙_}
-
-use mathlib.Core.Bool.{Bool, false, _||_}
+use mathlib.Core.Bool.{Bool, false}
 use mathlib.Core.List.{List, [], _∷_, _++_}
 use Prim.Native.Nat.{ℕ, zero, suc, _+_, _*_, _/_, _%_, _≤_, _<_}
 use native.Mathlib.Nat.{mod-lt, div-add-mod', not-suc-le-zero, le-of-suc-le-suc}
@@ -15,11 +14,6 @@ use Rattle.sets.proofs.Facts.{some-i}
 use Rattle.meaning.specs.Lists.{overwritten, refusedIf}
 use Rattle.meaning.proofs.RefusalLaws.{none-met, first-alone, unmet}
 use Rattle.meaning.specs.Milliseconds.{ticksAndRests, ticksOutOfRange, milliseconds, WholeDelay, RestBelow, TicksFit}
-
-pub ticks-length : (tick : ℕ) (ds : List ℕ) → length (ticksAndRests tick ds) ≡ 2 * length ds
-unfolding ticksAndRests
-ticks-length tick [] = refl
-ticks-length tick (d ∷ ds) = omega (arith, ticks-length tick ds)
 
 -- each delay's two words, whatever follows the words of all
 words-at : (tick : ℕ) (ds rest : List ℕ) (i : ℕ) → i < length ds
