@@ -1,7 +1,7 @@
 -- The number of each refusal, by who causes it, with the definition that is its condition. Assumes nothing.
 use Prim.Native.Nat.{ℕ}
 use Rattle.meaning.specs.declared.refusal.Refusal.{Refusal}
-use Rattle.meaning.specs.declared.refusal.Refusal.the-variants.{Nothing, Head, ModeRow, Pair, Ends, Term, SharedEnds, TooManyTimers, Ambiguous, Restless, ShortTable, FullWorkList, ShortOutput, InputSet, State, Layout, TickRange}
+use Rattle.meaning.specs.declared.refusal.Refusal.the-variants.{Nothing, Head, ModeRow, Pair, Ends, Term, SharedEnds, TooManyTimers, Ambiguous, Restless, ShortTable, FullWorkList, ShortOutput, InputSet, State, Layout, Transition, Unfaithful, Stations, Parts, TickRange}
 
 abbrev pub numberOf : Refusal → ℕ
 numberOf Nothing = 0
@@ -26,5 +26,10 @@ numberOf InputSet = 13
 numberOf State = 14
 -- whoever brings a table: `tableOk` (Table) fails, or `isStale` (TableRun) at a tick
 numberOf Layout = 15
+-- of requests that have not landed: a transition number at T or above, a table that is not faithful, the number of stations, their parts
+numberOf Transition = 16
+numberOf Unfaithful = 17
+numberOf Stations = 18
+numberOf Parts = 19
 -- whoever converts milliseconds: `ticksOutOfRange` (Milliseconds)
 numberOf TickRange = 20

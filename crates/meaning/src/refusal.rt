@@ -1,4 +1,5 @@
-// Why a call is refused, and the number that the documents give it.
+// Why a call is refused, and the number that the documents give it. Each number up to the highest has its variant, in order, so
+// that the number is the variant's place.
 ghost use mathlib.Core.Path.{_≡_};
 ghost use Rattle.meaning.specs.Refusal.{numberOf};
 
@@ -19,6 +20,10 @@ pub enum Refusal {
     InputSet,
     State,
     Layout,
+    Transition,
+    Unfaithful,
+    Stations,
+    Parts,
     TickRange,
 }
 
@@ -43,6 +48,10 @@ pub fn number(why: Refusal) -> u32
         Refusal::InputSet => 13,
         Refusal::State => 14,
         Refusal::Layout => 15,
+        Refusal::Transition => 16,
+        Refusal::Unfaithful => 17,
+        Refusal::Stations => 18,
+        Refusal::Parts => 19,
         Refusal::TickRange => 20,
     }
 }
