@@ -11,7 +11,7 @@ fn nested() -> Vec<u32> {
         if sheet[2] < 12 {
             continue;
         }
-        let c = fast::compile(&sheet, &mut vec![0; 1 << 22], &mut vec![0; 4095]);
+        let c = fast::compile_in(&sheet, &mut vec![0; 1 << 22], &mut vec![0; 4095], crate::edition());
         if c.refusal == 0 && c.length > pick.0 {
             pick = (c.length, sheet);
         }

@@ -1,7 +1,7 @@
 // timing [SECONDS] [large]: compile, table run, sheet run and milliseconds, ours beside the hand-optimised Rust version, in turns
-// on the same sheets, inputs and buffers (warm, not cleared). Every word of table, work list and output is compared first. With BEFORE_DIR set
-// at build, our operations as they were at an earlier commit are timed in the same turns; with MODEL_DIR, the sheet run of the
-// unproved model of patterns/code.
+// on the same sheets, inputs and buffers (warm, not cleared). Every word of table, work list and output is compared first. With
+// BEFORE_DIR set at build, our operations as they were at an earlier commit are timed in the same turns; with MODEL_DIR, the
+// sheet run of the unproved model of patterns/code.
 #[cfg(before)]
 mod before;
 mod calls;
