@@ -12,6 +12,7 @@ use Rattle.sets.specs.Sets.{has, union, single, some}
 use Rattle.sets.proofs.Tests.{is-false, of-true, and-l, and-r, and-i, or-e, or-l, or-r, bool-ext}
 use Rattle.sets.proofs.Membership.{same-members}
 use Rattle.sets.proofs.Facts.{union-e, union-l, union-r, single-e, single-i, some-e, some-i}
+use Rattle.sets.proofs.Highest.{last-cases, last-none}
 use Rattle.meaning.specs.Sheet.{nOf, kind, parent, first, isChild}
 use Rattle.meaning.specs.Check.{modeOk}
 use Rattle.meaning.specs.Hierarchy.{brings, complete}
@@ -19,8 +20,8 @@ use Rattle.meaning.proofs.ListLaws.{allOf-e}
 use Rattle.meaning.proofs.SheetLaws.{parent-n, Sound, n-pos, tree, first-child}
 use Rattle.meaning.proofs.Containment.{Within, here, up, isChild-e, isChild-i}
 use Rattle.meaning.proofs.Completion.{Comp, base, down, complete-e, complete-i, Based}
-use Rattle.hierarchy.specs.Below.{last, gather, keptChild, completedBelowAt, completedBelow, branch}
-use Rattle.hierarchy.proofs.Gather.{last-cases, last-hit, last-miss, last-none, gather-e, gather-i, gather-same, gather-hit, gather-miss, gather-none}
+use Rattle.hierarchy.specs.Below.{gather, keptChild, completedBelowAt, completedBelow, branch}
+use Rattle.hierarchy.proofs.Gather.{gather-e, gather-i, gather-same, gather-hit, gather-miss, gather-none}
 
 -- a mode's kind by the code's test
 pub serial-of : (k : ℕ) (t : Bool) → t ≡ eqb k 1 → t ≡ true → k ≡ 1
