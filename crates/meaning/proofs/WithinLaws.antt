@@ -7,8 +7,8 @@ use Prim.Native.Nat.{ℕ, _≤_, _<_}
 use native.Mathlib.Nat.{lt-of-le-of-lt}
 use native.Mathlib.Omega.{arith}
 use lib.Dec.{T, eqb, ltb, eqb→eq, T-not, not-T}
-use lib.ListN.{length, getD, List·getD-eq-default}
-use borrow.Author.Tests.{eqb-true, eq-eqb, ltb-true, ltb-false}
+use lib.ListN.{length, getD, replicate, List·getD-eq-default}
+use borrow.Author.Tests.{eqb-true, eq-eqb, ne-eqb, ltb-true, ltb-false}
 use Rattle.sets.specs.Sets.{has, setOf, some}
 use Rattle.sets.proofs.Tests.{is-true, is-false, of-true, and-l, and-r, and-i, bool-ext, eqb-sym}
 use Rattle.sets.proofs.Facts.{some-e, some-i}
@@ -80,6 +80,15 @@ pub within-none : (s : List ℕ) (p m : ℕ) → nOf s ≤ m → has (within s p
 unfolding within
 within-none s p m l = has-above (nOf s) (setOf (nOf s) (strictlyContains s p)) m (setOf-lt (nOf s) (strictlyContains s p)) l
 
+-- what is given of a refused sheet, and of another
+pub masks-refused : (s : List ℕ) (e : ℕ) → e ≡ sheetRefusal s → (e ≡ 0 → ⊥) → record { refusal = e; masks = replicate 32 0 } ≡ masksOf s
+unfolding masksOf
+masks-refused s e h n = rw (sym h, ne-eqb e 0 n)
+
+pub masks-given : (s w : List ℕ) (e : ℕ) → e ≡ sheetRefusal s → e ≡ 0 → w ≡ withinEach s → record { refusal = e; masks = w } ≡ masksOf s
+unfolding masksOf
+masks-given s w e h z k = rw (sym h, z, k)
+
 mask-at : (s : List ℕ) → sheetRefusal s ≡ 0 → (p : ℕ) → p < 32 → getD (masksOf s .masks) p 0 ≡ within s p
 unfolding masksOf withinEach
 mask-at s h p l = rw h (row-at 32 (within s) p l)
@@ -96,7 +105,6 @@ above-none s ro p m l =
     (λ k. within-none s p m k) (below-or-not m (nOf s))
 
 module _ (s : List ℕ) (h : sheetRefusal s ≡ 0) where
-
   mask-above : (p m : ℕ) → nOf s ≤ p → has (getD (masksOf s .masks) p 0) m ≡ false
   mask-above p m l =
       ⊎-elim (λ k. ap (λ (w : ℕ). has w m) (mask-at s h p k) ∙ above-none s (tree s (sound s h)) p m l)

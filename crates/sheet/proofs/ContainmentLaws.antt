@@ -49,7 +49,6 @@ module _ (s : List ℕ) where
   ContainersTo m words = (p : ℕ) → p < m → getD words p 0 ≡ containers s p
 
 module _ (s : List ℕ) (ro : Rooted s) where
-
   inside-none : (c i : ℕ) → nOf s ≤ i → has (inside s c) i ≡ false
   inside-none c i l = has-above (nOf s) (inside s c) i (setOf-lt (nOf s) (contains s c)) l
 

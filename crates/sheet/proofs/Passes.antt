@@ -72,6 +72,7 @@ module _ (s : List ℕ) (own given : ℕ → ℕ → Bool) where
   handed-start words n e f p i =
       f p i
       ∙ rw e (sym (ap (λ (b : Bool). own p i || b) (some-false (nOf s) (fromChild (nOf s) p i) (λ c l. is-false (fromChild (nOf s) p i c) (λ h. omega (arith, from-e (nOf s) p i c h .1)))) ∙ or-false (own p i)))
+
   pub handed-turn : (words : List ℕ) (m p x : ℕ) → 0 < m → m < nOf s → p ≡ parent s m → p < length words → Handed (m + 1) words
       → ((i : ℕ) → has x i ≡ given m i) → Handed m (set words p (union (getD words p 0) x))
   unfolding handedFrom
