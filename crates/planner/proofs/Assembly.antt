@@ -7,7 +7,7 @@ use Prim.Native.Nat.{ℕ, zero, suc, _+_, _%_, _^_, _≤_, _<_}
 use native.Mathlib.Nat.{lt-of-lt-of-le, mod-eq-of-lt, pow-le-pow-right}
 use native.Mathlib.Omega.{arith}
 use lib.Dec.{T, leb, leb→le}
-use lib.ListN.{length, set}
+use lib.ListN.{length, set, replicate, getD-replicate}
 use Rattle.sets.specs.Sets.{single}
 use Rattle.sets.proofs.Tests.{and-l, and-r, or-e}
 use Rattle.sets.proofs.Membership.{setOf-lt}
@@ -47,12 +47,10 @@ abbrev AllFit : List Piece → Type 0
 AllFit [] = Unit {0}
 AllFit (p ∷ ps) = Fits p × AllFit ps
 
--- a list is some list as long as a plan with these parts laid over it
+-- a list is the plan as it begins, all 0, with these parts laid over it
 pub record Laid (ps : List Piece) (m : List ℕ) : Type 0 where
-  pub base : List ℕ
-  pub long : length base ≡ planSize
   pub fit : AllFit ps
-  pub is : m ≡ laid ps base
+  pub is : m ≡ laid ps (replicate planSize 0)
 
 -- part k, counted from the one that was laid last
 abbrev nth : List Piece → ℕ → Piece
@@ -99,24 +97,45 @@ laid-part (p ∷ ps) (suc k) l h a b =
     part-beside (laid ps l) (p .at) (p .width) (p .word) (omega (arith, a .0 .within, a .0 .inside)) (q .at) (q .width) (q .word)
     (apart q p (fits-nth ps k (a .1) later) (a .0) (and-l (beside q p) (free ps k) b)) (laid-part ps k l h (a .1) later)
 
+-- a part of the list where no part was laid yet: its room lies beside the rooms of all
+abbrev clear : Piece → List Piece → Bool
+clear q [] = true
+clear q (p ∷ ps) = beside q p && clear q ps
+
+laid-clear : (q : Piece) (ps : List Piece) (l : List ℕ) → length l ≡ planSize → Fits q → AllFit ps → T (clear q ps)
+    → WordsAt l (q .at) (q .width) (q .word) → WordsAt (laid ps l) (q .at) (q .width) (q .word)
+laid-clear q [] l h k a b w = w
+laid-clear q (p ∷ ps) l h k a b w =
+    let e = laid-length ps l h (a .1) in
+    part-beside (laid ps l) (p .at) (p .width) (p .word) (omega (arith, a .0 .within, a .0 .inside)) (q .at) (q .width) (q .word)
+    (apart q p k (a .0) (and-l (beside q p) (clear q ps) b)) (laid-clear q ps l h k (a .1) (and-r (beside q p) (clear q ps) b) w)
+
 -- ---- what is known of a list with parts laid over it
 
 pub laid-long : {ps : List Piece} {m : List ℕ} → Laid ps m → length m ≡ planSize
-laid-long {ps} d = ap length (d .is) ∙ laid-length ps (d .base) (d .long) (d .fit)
+laid-long {ps} d = ap length (d .is) ∙ laid-length ps (replicate planSize 0) refl (d .fit)
 
 -- a part stands if no later one was laid over it
 pub laid-has : (k : ℕ) {ps : List Piece} {m : List ℕ} → Laid ps m → T (free ps k) → let q = nth ps k in WordsAt m (q .at) (q .width) (q .word)
-laid-has k {ps} d b = rw (d .is) (laid-part ps k (d .base) (d .long) (d .fit) b)
+laid-has k {ps} d b = rw (d .is) (laid-part ps k (replicate planSize 0) refl (d .fit) b)
 
-pub none-laid : (m : List ℕ) → length m ≡ planSize → Laid [] m
-none-laid m h = record { base = m; long = h; fit = tt; is = refl }
+-- the words are 0 where none was laid yet
+abbrev zeroPiece : ℕ → ℕ → Piece
+zeroPiece i w = record { at = i; room = w; width = w; word = λ _. 0 }
+
+pub laid-zero : (i w : ℕ) {ps : List Piece} {m : List ℕ} → Laid ps m → i + w ≤ planSize → T (clear (zeroPiece i w) ps) → WordsAt m i w (λ _. 0)
+laid-zero i w {ps} d h b =
+    rw (d .is)
+    (laid-clear (zeroPiece i w) ps (replicate planSize 0) refl (record { within = omega arith; inside = h }) (d .fit) b
+    (λ t k. getD-replicate planSize (i + t) 0 0 (omega arith)))
+
+pub none-laid : Laid [] (replicate planSize 0)
+none-laid = record { fit = tt; is = refl }
 
 -- one more part is laid, or one word stored
 pub lay : (p : Piece) {ps : List Piece} {m n : List ℕ} → Fits p → Laid ps m → n ≡ over m (p .at) (rowFrom 0 (p .width) (p .word)) → Laid (p ∷ ps) n
 lay p k d e =
     record {
-      base = d .base;
-      long = d .long;
       fit = (k, d .fit);
       is = e ∙ ap (λ (l : List ℕ). over l (p .at) (rowFrom 0 (p .width) (p .word))) (d .is);
     }

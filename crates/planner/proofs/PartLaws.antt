@@ -94,6 +94,15 @@ module _ (l : List ℕ) (at w : ℕ) (f : ℕ → ℕ) (h : at + w ≤ length l)
           let j : at + (i - at) ≡ i = omega arith in
           rw j at (inside (i - at) k ∙ sym (part-in (i - at) k))
 
+-- a part laid over itself
+pub part-again : (l : List ℕ) (at w : ℕ) (f g : ℕ → ℕ) → at + w ≤ length l → over (over l at (rowFrom 0 w f)) at (rowFrom 0 w g) ≡ over l at (rowFrom 0 w g)
+part-again l at w f g h =
+    let m = over l at (rowFrom 0 w f) in
+    let long : length m ≡ length l = part-length l at w f h in
+    let k : at + w ≤ length m = omega arith in
+    part-is l at w g h (over m at (rowFrom 0 w g)) (part-length m at w g k ∙ long) (part-in m at w g k)
+    (λ i a. part-out m at w g k i a ∙ part-out l at w f h i a)
+
 -- a loop that lays a part: its start, and one turn
 module _ (l : List ℕ) (at : ℕ) (f : ℕ → ℕ) where
   pub part-none : l ≡ over l at (rowFrom 0 0 f)

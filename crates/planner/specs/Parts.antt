@@ -1,14 +1,14 @@
 -- What the parts of the plan are made from. Assumes nothing.
 use mathlib.Core.Path.{_≡_}
-use mathlib.Core.Bool.{Bool, cond}
+use mathlib.Core.Bool.{Bool, _||_, cond}
 use mathlib.Core.List.{List}
 use Prim.Native.Nat.{ℕ, _+_, _<_}
-use lib.Dec.{eqb}
+use lib.Dec.{eqb, ltb}
 use lib.ListN.{getD}
 use Rattle.sets.specs.Sets.{single, setOf}
 use Rattle.meaning.specs.Sheet.{tOf, meeting}
-use Rattle.meaning.specs.Reaction.{isDelay, delay}
-use Rattle.reaction.specs.Plan.{sourcesIn, eventsOnly}
+use Rattle.meaning.specs.Reaction.{isDelay, delay, alternative}
+use Rattle.reaction.specs.Plan.{sourcesIn, noSets, eventsOnly}
 
 -- the w words of a list from a place on are f 0, f 1, ..
 abbrev pub WordsAt : List ℕ → ℕ → ℕ → (ℕ → ℕ) → Type 0
@@ -25,6 +25,10 @@ module _ (s : List ℕ) where
 
   unfoldable pub sure : ℕ
   sure = setOf (tOf s) isSure
+
+  -- the input set i triggers t, one of these, where its source is active: t has a delay, or its terms hold
+  unfoldable pub isHit : ℕ → ℕ → Bool
+  isHit t i = isDelay s t || ltb 0 (alternative s i noSets t)
 
 -- word t is the meeting mode of transition t
 unfoldable pub Meetings : List ℕ → List ℕ → Type 0

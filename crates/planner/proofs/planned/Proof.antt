@@ -1,13 +1,12 @@
 -- `planner::planned` meets its contract: its parts are laid one after the other, none over another. Assumes nothing.
 use mathlib.Core.Path.{_≡_, refl}
 use mathlib.Core.List.{List, [], _∷_}
-use Prim.Native.Nat.{ℕ, _+_}
+use Prim.Native.Nat.{ℕ}
 use native.Mathlib.Omega.{arith}
 use borrow.Author.Needs.{needs}
-use lib.ListN.{replicate, getD-replicate}
 use Rattle.meaning.specs.Check.{sheetRefusal}
-use Rattle.reaction.specs.Plan.{exitsPart, entersPart, conflictsPart, yieldersPart, losesPart, gainsPart, fromPart, timersWord, mixedWord, startWord, planSize}
-use Rattle.planner.proofs.Assembly.{Laid, lay, lay-word, none-laid, laid-has, laid-long, fromPiece, losesPiece, delaysPiece, ends, changes, conflicts, classes, row-fits, hits-fit, loses-are, gains-are, planned-of}
+use Rattle.reaction.specs.Plan.{exitsPart, entersPart, conflictsPart, yieldersPart, losesPart, gainsPart, delaysPart, hitsPart, fromPart, timersWord, mixedWord, startWord}
+use Rattle.planner.proofs.Assembly.{Laid, lay, lay-word, none-laid, laid-has, laid-zero, laid-long, fromPiece, losesPiece, delaysPiece, ends, changes, conflicts, classes, row-fits, hits-fit, loses-are, gains-are, planned-of}
 use Rattle.planner.proofs.planned.Statement.{statement}
 use Rattle.planner.proofs.planned.Tie as tie
 
@@ -41,7 +40,7 @@ past c = c .before .before .before .pre
 
 -- the parts laid so far, after each
 laid-from : (c : tie.After-put-from) → let s = sheet (by-from c) in Laid (fromPiece s ∷ []) (c .put-from .last .1 .0)
-laid-from c = lay _ (record { within = omega arith; inside = omega arith }) (none-laid (replicate planSize 0) refl) (c .put-from .ensures)
+laid-from c = lay _ (record { within = omega arith; inside = omega arith }) none-laid (c .put-from .ensures)
 
 laid-ends : (c : tie.After-put-ends) → let s = sheet (by-ends c) in Laid (ends s) (c .put-ends .last .1 .1 .0)
 laid-ends c =
@@ -80,7 +79,7 @@ classes-of-requires : tie.Need-classes-of-requires
 classes-of-requires c κs = search needs
 
 put-from-requires : tie.Need-put-from-requires
-put-from-requires c κs = (past (c .before), refl, λ t h. getD-replicate planSize (fromPart + t) 0 0 (omega arith))
+put-from-requires c κs = (past (c .before), refl, laid-zero fromPart 32 none-laid (omega arith) tt)
 
 put-ends-requires : tie.Need-put-ends-requires
 put-ends-requires c κs = (past (by-from (c .before .before)), laid-long (laid-from (c .before .before)), by-from (c .before .before) .before .insides .ensures)
@@ -99,10 +98,14 @@ put-conflicts-requires : tie.Need-put-conflicts-requires
 put-conflicts-requires c κs = (past (by-gains (c .before .before)), laid-long (laid-gains (c .before .before)), by-gains (c .before .before) .before .insides .ensures)
 
 put-delays-requires : tie.Need-put-delays-requires
-put-delays-requires c κs = (past (by-conflicts (c .before)), laid-long (laid-conflicts (c .before)), by-conflicts (c .before) .classes-of .ensures .0)
+put-delays-requires c κs =
+    let d = laid-conflicts (c .before) in
+    (past (by-conflicts (c .before)), laid-long d, by-conflicts (c .before) .classes-of .ensures .0, laid-zero delaysPart 64 d (omega arith) tt)
 
 put-hits-requires : tie.Need-put-hits-requires
-put-hits-requires c κs = (past (by-delays (c .before)), laid-long (laid-delays (c .before)), by-delays (c .before) .classes-of .ensures .1)
+put-hits-requires c κs =
+    let d = laid-delays (c .before) in
+    (past (by-delays (c .before)), laid-long d, by-delays (c .before) .classes-of .ensures .1, laid-zero hitsPart 64 d (omega arith) tt)
 
 array-write-plan : tie.Need-array-write-plan
 array-write-plan c = search needs
