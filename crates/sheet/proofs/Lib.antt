@@ -1,6 +1,7 @@
 pub mod SheetTestLaws
+pub mod MaskLaws
 pub mod Climb
-pub mod Past
 pub mod Passes
 pub mod ContainmentLaws
 pub mod EndsLaws
+pub mod Past

@@ -2,9 +2,10 @@
 ghost use mathlib.Core.Path.{_≡_};
 ghost use mathlib.Core.Bool.{false};
 ghost use Prim.Native.Nat.{_<_};
-ghost use lib.Dec.{eqb};
+ghost use lib.Dec.{T, eqb};
 ghost use Rattle.meaning.specs.Sheet.{nOf, kind, source, target, contains, meeting};
-ghost use Rattle.sheet.specs.Masks.{Containers};
+ghost use Rattle.meaning.specs.Check.{headOk};
+ghost use Rattle.sheet.specs.Masks.{Children, Containers};
 ghost use Rattle.sheet.specs.Reading.{Row, Record, Tree};
 use super::words::kind;
 use super::words::mode_count;
@@ -12,6 +13,24 @@ use super::words::parent;
 use super::words::source;
 use super::words::target;
 use sets::modes;
+
+// The children of each mode: each mode is added to its parent's, if that can be a mode.
+pub fn children(sheet: &[u32]) -> [u32; 32]
+    requires { ⌜ T (headOk (now sheet)) ⌝ }
+    ensures { λ r. ⌜ Children (now (sheet .entry)) r ⌝ }
+{
+    let n = mode_count(sheet);
+    let mut r = [0u32; 32];
+    let mut m = 1;
+    while m < n {
+        let p = parent(sheet, m);
+        if p < 32 {
+            r[p] |= modes::single(m);
+        }
+        m += 1;
+    }
+    r
+}
 
 // The modes that contain each mode: itself and those that contain its parent, whose number is lower.
 pub fn containers(sheet: &[u32]) -> [u32; 32]
