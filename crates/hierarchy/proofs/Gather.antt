@@ -1,10 +1,9 @@
--- The union of sets over the numbers below k that pass a test: what it holds, and one turn of the loop that makes it. Assumes nothing.
+-- The union of sets over the numbers below k that pass a test: what it holds. Assumes nothing.
 use mathlib.Core.Path.{_≡_, refl, ap₂, subst}
 use mathlib.Core.Logic.{_⊎_, inl, inr, ⊎-elim}
 use mathlib.Core.Bool.{Bool, true, false, cond}
-use Prim.Native.Nat.{ℕ, zero, suc, _+_, _<_}
+use Prim.Native.Nat.{ℕ, zero, suc, _<_}
 use native.Mathlib.Nat.{le-refl, not-suc-le-zero, le-of-suc-le-suc, eq-or-lt-of-le}
-use native.Mathlib.Numerals.{add-one}
 use native.Mathlib.Omega.{arith}
 use lib.Dec.{T}
 use Rattle.sets.specs.Sets.{has, union}
@@ -12,8 +11,6 @@ use Rattle.sets.proofs.Tests.{of-true, of-false}
 use Rattle.sets.proofs.Membership.{has-none}
 use Rattle.sets.proofs.Facts.{union-e, union-l, union-r}
 use Rattle.hierarchy.specs.Below.{gather}
-
--- ---- the union of g i over the numbers i below k that pass p
 
 module _ (p : ℕ → Bool) (g : ℕ → ℕ) where
   pub gather-e : (k y : ℕ) → T (has (gather p g k) y) → (c : ℕ) × (c < k) × T (p c) × T (has (g c) y)
@@ -37,19 +34,6 @@ module _ (p : ℕ → Bool) (g : ℕ → ℕ) where
       go true q (inr i) ih = union-l (gather p g k) (g k) y (ih i)
       go false q (inl i) ih = absurd (of-false q (subst (λ (j : ℕ). T (p j)) i e))
       go false q (inr i) ih = ih i
-
-  pub gather-hit : (k : ℕ) → p k ≡ true → gather p g (k + 1) ≡ union (gather p g k) (g k)
-  unfolding gather
-  gather-hit k e = rw (add-one, e)
-
-  pub gather-miss : (k : ℕ) → p k ≡ false → gather p g (k + 1) ≡ gather p g k
-  unfolding gather
-  gather-miss k e = rw (add-one, e)
-
-  pub gather-none : (k : ℕ) → ((i : ℕ) → i < k → p i ≡ false) → gather p g k ≡ 0
-  unfolding gather
-  gather-none zero f = refl
-  gather-none (suc k) f = rw (f k (omega arith)) (gather-none k (λ i l. f i (omega arith)))
 
   pub gather-same : (g′ : ℕ → ℕ) (k : ℕ) → ((c : ℕ) → c < k → T (p c) → g c ≡ g′ c) → gather p g k ≡ gather p g′ k
   unfolding gather

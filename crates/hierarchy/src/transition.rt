@@ -7,6 +7,7 @@ ghost use Rattle.sets.specs.Sets.{setOf};
 ghost use Rattle.meaning.specs.Sheet.{nOf, tOf, contains};
 ghost use Rattle.meaning.specs.Check.{sheetRefusal};
 ghost use Rattle.meaning.specs.Hierarchy.{exits, enters};
+ghost use Rattle.sheet.specs.Masks.{Children};
 ghost use Rattle.hierarchy.specs.Inside.{Insides};
 use super::complete::completed;
 use sets::modes::single;
@@ -41,11 +42,11 @@ fn path(sheet: &[u32], c: usize, m: usize) -> u32
 }
 
 // The modes that t enters: the path from its meeting mode's child down to the target, completed.
-pub fn entered_by(sheet: &[u32], t: usize) -> u32
-    requires { ⌜ (sheetRefusal (now sheet) ≡ 0) × (t < tOf (now sheet)) ⌝ }
+pub fn entered_by(sheet: &[u32], children: &[u32; 32], t: usize) -> u32
+    requires { ⌜ (sheetRefusal (now sheet) ≡ 0) × (t < tOf (now sheet)) × Children (now sheet) (now children) ⌝ }
     ensures { λ r. ⌜ r ≡ enters (now (sheet .entry)) t ⌝ }
 {
     let b = target(sheet, t);
     let c = child_holding(sheet, meeting(sheet, t), b);
-    completed(sheet, path(sheet, c, b), c)
+    completed(sheet, children, path(sheet, c, b), c)
 }

@@ -1,25 +1,50 @@
--- The masks of children, made by a loop that adds each mode to its parent's word: its start, its turn at mode m, its end. Assumes nothing.
+-- The masks of children: what a word of them holds, and the loop that makes them by adding each mode to its parent's word, its
+-- start, its turn at mode m and its end. Assumes nothing.
 use mathlib.Core.Path.{_≡_, sym, ap, ap₂, _∙_}
 use mathlib.Core.Bool.{Bool, false, not, _&&_}
 use mathlib.Core.List.{List}
-use Prim.Native.Nat.{ℕ, _+_, _≤_, _<_}
+use Prim.Native.Nat.{ℕ, _+_, _^_, _≤_, _<_}
 use native.Mathlib.Omega.{arith}
-use lib.Dec.{eqb}
+use lib.Dec.{T, eqb}
 use lib.ListN.{length, getD, set, replicate, getD-replicate}
 use borrow.Author.Tests.{eq-eqb, ne-eqb, lt-ltb, le-ltb}
-use Rattle.sets.specs.Sets.{union, single, setOf, some}
+use Rattle.sets.specs.Sets.{has, union, single, setOf, some}
 use Rattle.sets.proofs.Loops.{set-word, setOf-none, setOf-width}
-use Rattle.sets.proofs.Membership.{setOf-add, setOf-skip}
+use Rattle.sets.proofs.Membership.{setOf-lt, setOf-add, setOf-skip}
+use Rattle.sets.proofs.Facts.{setOf-e, setOf-i}
 use Rattle.sets.proofs.Quantifiers.{setOf-some}
 use Rattle.meaning.specs.Sheet.{nOf, parent, isChild}
+use Rattle.meaning.specs.Check.{sheetRefusal}
 use Rattle.meaning.specs.Hierarchy.{children}
 use Rattle.sheet.specs.Masks.{Children}
+use Rattle.sheet.proofs.Past.{mode-small}
 
 -- word p is the set of the children of p below m
 abbrev pub ChildrenBelow : List ℕ → ℕ → List ℕ → Type 0
 ChildrenBelow s m words = (p : ℕ) → p < 32 → getD words p 0 ≡ setOf m (isChild s p)
 
 module _ (s : List ℕ) where
+  -- ---- the children of p
+
+  pub children-lt : (p : ℕ) → children s p < 2 ^ nOf s
+  unfolding children
+  children-lt p = setOf-lt (nOf s) (isChild s p)
+
+  pub children-e : (p c : ℕ) → T (has (children s p) c) → (c < nOf s) × T (isChild s p c)
+  unfolding children
+  children-e p c h = setOf-e (nOf s) (isChild s p) c h
+
+  pub children-i : (p c : ℕ) → c < nOf s → T (isChild s p c) → T (has (children s p) c)
+  unfolding children
+  children-i p c l h = setOf-i (nOf s) (isChild s p) c l h
+
+  -- the word of a mode
+  pub children-word : (words : List ℕ) (p : ℕ) → sheetRefusal s ≡ 0 → p < nOf s → Children s words → getD words p 0 ≡ children s p
+  unfolding Children
+  children-word words p h l c = c p (mode-small s h p l)
+
+  -- ---- the loop that makes them
+
   -- the root is nobody's child
   isChild-root : (p : ℕ) → isChild s p 0 ≡ false
   unfolding isChild

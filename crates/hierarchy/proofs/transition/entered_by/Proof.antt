@@ -32,7 +32,7 @@ path-requires c κs =
     (p .0, target-held _ sd _ (p .1) _ m _ b .0, path-held _ sd _ (p .1) _ m _ _ b (c .child-holding .ensures .0))
 
 completed-requires : tie.Need-completed-requires
-completed-requires c κs = (c .before .before .before .before .before .pre .0, c .before .child-holding .ensures .1)
+completed-requires c κs = let p = c .before .before .before .before .before .pre in (p .0, c .before .child-holding .ensures .1, p .2)
 
 returns : tie.Need-returns
 returns c =

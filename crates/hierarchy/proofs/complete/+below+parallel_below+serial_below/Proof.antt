@@ -1,0 +1,217 @@
+-- `hierarchy::complete::below`, `hierarchy::complete::serial_below` and `hierarchy::complete::parallel_below`, which call each other, meet
+-- their contracts. The measure of each is twice 32 less the mode, since a child has a higher number, and one more for `below`, which
+-- calls for the same mode. The loop's invariant: r with what is below the children in rest is what is below m. Assumes nothing.
+use mathlib.Core.Path.{_≡_, refl, sym, _∙_}
+use Prim.Native.Nat.{ℕ, _+_, _-_, _*_, _^_, _<_}
+use native.Mathlib.Omega.{arith}
+use borrow.Author.Needs.{needs}
+use borrow.Fn.Kinds.{In}
+use borrow.Fn.PlainCycle.{Measures, is, falls, and}
+use Rattle.sets.specs.Sets.{union, minus, single, members, lowest}
+use Rattle.sets.proofs.Tests.{of-true}
+use Rattle.sets.proofs.Members.{Turn, fold, turn, fold-turn, fold-done}
+use Rattle.sets.proofs.Those.{Subset, subset-turn}
+use Rattle.meaning.specs.Sheet.{nOf}
+use Rattle.meaning.specs.Hierarchy.{children}
+use Rattle.meaning.proofs.SheetLaws.{sound}
+use Rattle.sheet.proofs.Past.{mode-small, row-read}
+use Rattle.sheet.proofs.MaskLaws.{children-lt, children-word}
+use Rattle.hierarchy.specs.Below.{completedBelow}
+use Rattle.hierarchy.proofs.BelowLaws.{serial-of, other-of, children-next, kept-child-next, serial-done, completed-below-childless, completed-below-members}
+use Rattle.hierarchy.proofs.ConsistentLaws.{fits-32}
+use Rattle.hierarchy.proofs.complete.below.Reads as below
+use Rattle.hierarchy.proofs.complete.below.Kinds as below-kinds
+use Rattle.hierarchy.proofs.complete.+below+parallel_below+serial_below.Lts-below as below-lts
+use Rattle.hierarchy.proofs.complete.parallel_below.Reads as parallel-below
+use Rattle.hierarchy.proofs.complete.parallel_below.Kinds as parallel-below-kinds
+use Rattle.hierarchy.proofs.complete.+below+parallel_below+serial_below.Lts-parallel_below as parallel-below-lts
+use Rattle.hierarchy.proofs.complete.serial_below.Reads as serial-below
+use Rattle.hierarchy.proofs.complete.serial_below.Kinds as serial-below-kinds
+use Rattle.hierarchy.proofs.complete.+below+parallel_below+serial_below.Lts-serial_below as serial-below-lts
+use Rattle.hierarchy.proofs.complete.kept_child.Reads as kept-child-reads
+use Rattle.sets.proofs.modes.lowest.Reads as lowest-reads
+use Rattle.sets.proofs.modes.single.Reads as single-reads
+use Rattle.sets.proofs.modes.without_lowest.Reads as without-lowest-reads
+use Rattle.sheet.proofs.hierarchy.is_serial.Reads as is-serial-reads
+use Rattle.hierarchy.proofs.complete.+below+parallel_below+serial_below.{statement}
+use Rattle.hierarchy.proofs.complete.+below+parallel_below+serial_below.Tie.{close}
+
+abbrev μ-below : Measures 2 below-kinds.ps ℕ
+μ-below κs a = 2 * (32 - a .1 .1 .1 .0) + 1
+
+abbrev μ-parallel-below : Measures 2 parallel-below-kinds.ps ℕ
+μ-parallel-below κs a = 2 * (32 - a .1 .1 .1 .0)
+
+abbrev μ-serial-below : Measures 2 serial-below-kinds.ps ℕ
+μ-serial-below κs a = 2 * (32 - a .1 .1 .1 .0)
+
+abbrev below-at : ℕ → In 2 below-kinds.ps
+below-at t = and 2 below-kinds.ps (is 2 below-kinds.ps μ-below t) below.Pre
+
+abbrev below-below : ℕ → In 2 below-kinds.ps
+below-below t = and 2 below-kinds.ps (falls 2 below-kinds.ps _<_ μ-below t) below.Pre
+
+abbrev parallel-below-at : ℕ → In 2 parallel-below-kinds.ps
+parallel-below-at t =
+    and 2 parallel-below-kinds.ps (is 2 parallel-below-kinds.ps μ-parallel-below t) parallel-below.Pre
+
+abbrev parallel-below-below : ℕ → In 2 parallel-below-kinds.ps
+parallel-below-below t =
+    and 2 parallel-below-kinds.ps (falls 2 parallel-below-kinds.ps _<_ μ-parallel-below t) parallel-below.Pre
+
+abbrev serial-below-at : ℕ → In 2 serial-below-kinds.ps
+serial-below-at t =
+    and 2 serial-below-kinds.ps (is 2 serial-below-kinds.ps μ-serial-below t) serial-below.Pre
+
+abbrev serial-below-below : ℕ → In 2 serial-below-kinds.ps
+serial-below-below t =
+    and 2 serial-below-kinds.ps (falls 2 serial-below-kinds.ps _<_ μ-serial-below t) serial-below.Pre
+
+-- what the three know of the functions that they call
+abbrev below-calls : ℕ → below-lts.Claims
+below-calls t = (is-serial-reads.Asked, is-serial-reads.Learnt, serial-below-below t, serial-below.Post, parallel-below-below t, parallel-below.Post)
+
+abbrev parallel-calls : ℕ → parallel-below-lts.Claims
+parallel-calls t = (lowest-reads.Asked, lowest-reads.Learnt, below-below t, below.Post, without-lowest-reads.Asked, without-lowest-reads.Learnt)
+
+abbrev serial-calls : ℕ → serial-below-lts.Claims
+serial-calls t = (kept-child-reads.Asked, kept-child-reads.Learnt, single-reads.Asked, single-reads.Learnt, below-below t, below.Post)
+
+-- ---- below
+
+below-mul-if1 : (t : ℕ) → below-lts.Need-mul-if1 (below-calls t) (below-at t) below.Post
+below-mul-if1 t c = let p = c .before .pre .1 in omega (arith, mode-small _ (p .0) _ (p .1))
+
+below-element-copy-out-if1 : (t : ℕ) → below-lts.Need-element-copy-out-if1 (below-calls t) (below-at t) below.Post
+below-element-copy-out-if1 t c = let p = c .before .pre .1 in mode-small _ (p .0) _ (p .1)
+
+below-returns : (t : ℕ) → below-lts.Need-returns (below-calls t) (below-at t) below.Post
+below-returns t c =
+    let p = c .before .before .before .pre .1 in
+    sym (completed-below-childless _ (sound _ (p .0)) _ _ (p .1) (sym (children-word _ _ _ (p .0) (p .1) (p .2)) ∙ c .if1 .taken))
+
+below-is-serial-requires : (t : ℕ) → below-lts.Need-is-serial-requires (below-calls t) (below-at t) below.Post
+below-is-serial-requires t c κs = let p = c .before .before .before .pre .1 in row-read _ (p .0) _ (p .1)
+
+below-serial-below-requires : (t : ℕ) → below-lts.Need-serial-below-requires (below-calls t) (below-at t) below.Post
+below-serial-below-requires t c κs =
+    let p = c .before .before .before .before .before .pre in
+    (omega (arith, p .0), (p .1 .0, p .1 .1, p .1 .2, serial-of _ _ (c .before .is-serial .ensures) (c .if2 .taken)))
+
+below-parallel-below-requires : (t : ℕ) → below-lts.Need-parallel-below-requires (below-calls t) (below-at t) below.Post
+below-parallel-below-requires t c κs =
+    let p = c .before .before .before .before .before .pre in
+    (omega (arith, p .0), (p .1 .0, p .1 .1, p .1 .2, other-of _ _ (c .before .is-serial .ensures) (c .if2 .left)))
+
+below-returns-2 : (t : ℕ) → below-lts.Need-returns-2 (below-calls t) (below-at t) below.Post
+below-returns-2 t c = c .serial-below .ensures
+
+below-returns-3 : (t : ℕ) → below-lts.Need-returns-3 (below-calls t) (below-at t) below.Post
+below-returns-3 t c = c .parallel-below .ensures
+
+-- ---- parallel_below
+
+abbrev Inv-loop : parallel-below-lts.InvT-loop
+Inv-loop sheet words x m r₀ rest₀ r rest =
+    (rest < 2 ^ 32) × Subset rest (children sheet m)
+    × (fold (λ y c. union y (completedBelow sheet x c)) r (members 32 rest) ≡ completedBelow sheet x m)
+
+abbrev μ-loop : parallel-below-lts.MeasureT-loop
+μ-loop sheet words x m r₀ rest₀ r rest = rest
+
+parallel-below-mul-r : (t : ℕ) → parallel-below-lts.Need-mul-r (parallel-calls t) (parallel-below-at t) parallel-below.Post Inv-loop μ-loop
+parallel-below-mul-r t c = let p = c .before .pre .1 in omega (arith, mode-small _ (p .0) _ (p .1))
+
+parallel-below-element-copy-out-r : (t : ℕ) → parallel-below-lts.Need-element-copy-out-r (parallel-calls t) (parallel-below-at t) parallel-below.Post Inv-loop μ-loop
+parallel-below-element-copy-out-r t c = let p = c .before .pre .1 in mode-small _ (p .0) _ (p .1)
+
+parallel-below-loop-holds : (t : ℕ) → parallel-below-lts.Need-loop-holds (parallel-calls t) (parallel-below-at t) parallel-below.Post Inv-loop μ-loop
+parallel-below-loop-holds t c =
+    let s = c .before .before in
+    let p = s .pre .1 in
+    rw (children-word (s .args .sheet .now) (s .args .children .now) (s .args .m) (p .0) (p .1) (p .2))
+    (fits-32 _ (p .0) (children-lt _ _), λ i h. h, completed-below-members _ (sound _ (p .0)) _ _ (p .1) (p .3))
+
+-- a turn takes out a child of m, for which the measure is lower
+parallel-turn : (t : ℕ) (c : parallel-below-lts.After-lowest (parallel-calls t) (parallel-below-at t) parallel-below.Post Inv-loop μ-loop) {r : ℕ}
+    → r ≡ minus (c .before .before .loop .rest) (single (lowest 32 (c .before .before .loop .rest))) → Turn 32 (c .before .before .loop .rest) (c .lowest .result) r
+parallel-turn t c e = turn 32 (c .before .before .loop .rest) (c .before .before .loop .inv .0) (c .before .loop-test .taken) (c .lowest .ensures) e
+
+parallel-mode : (t : ℕ) (c : parallel-below-lts.After-lowest (parallel-calls t) (parallel-below-at t) parallel-below.Post Inv-loop μ-loop)
+    → (c .lowest .result < nOf (c .before .before .before .before .before .args .sheet .now)) × (2 * (32 - c .lowest .result) + 1 < t)
+parallel-mode t c =
+    let p = c .before .before .before .before .before .pre in
+    let k = children-next _ (sound _ (p .1 .0)) _ _ (c .before .before .loop .inv .1 _ (of-true (parallel-turn t c refl .lowest .member))) in
+    (k .1, omega (arith, p .0, k .0, mode-small _ (p .1 .0) _ (k .1)))
+
+parallel-below-lowest-requires : (t : ℕ) → parallel-below-lts.Need-lowest-requires (parallel-calls t) (parallel-below-at t) parallel-below.Post Inv-loop μ-loop
+parallel-below-lowest-requires t c κs = search needs
+
+parallel-below-below-requires : (t : ℕ) → parallel-below-lts.Need-below-requires (parallel-calls t) (parallel-below-at t) parallel-below.Post Inv-loop μ-loop
+parallel-below-below-requires t c κs =
+    let p = c .before .before .before .before .before .pre .1 in
+    let k = parallel-mode t c in
+    (k .1, (p .0, k .0, p .2))
+
+parallel-below-without-lowest-requires : (t : ℕ) → parallel-below-lts.Need-without-lowest-requires (parallel-calls t) (parallel-below-at t) parallel-below.Post Inv-loop μ-loop
+parallel-below-without-lowest-requires t c κs = parallel-turn t (c .before) refl .filled
+
+parallel-below-loop-less : (t : ℕ) → parallel-below-lts.Need-loop-less (parallel-calls t) (parallel-below-at t) parallel-below.Post Inv-loop μ-loop
+parallel-below-loop-less t c = parallel-turn t (c .before .before) (c .without-lowest .ensures) .less
+
+parallel-below-loop-again : (t : ℕ) → parallel-below-lts.Need-loop-again (parallel-calls t) (parallel-below-at t) parallel-below.Post Inv-loop μ-loop
+parallel-below-loop-again t c =
+    let u = parallel-turn t (c .before .before) (c .without-lowest .ensures) in
+    let s = c .before .before .before .before .before .before .before in
+    let l = c .before .before .before .before .loop in (
+      u .fits,
+      subset-turn (children (s .args .sheet .now) (s .args .m)) u (l .inv .1),
+      rw (c .before .below .ensures) (fold-turn (λ y d. union y (completedBelow (s .args .sheet .now) (s .args .x) d)) (l .r) u ∙ l .inv .2),
+    )
+
+parallel-below-returns : (t : ℕ) → parallel-below-lts.Need-returns (parallel-calls t) (parallel-below-at t) parallel-below.Post Inv-loop μ-loop
+parallel-below-returns t c =
+    let l = c .before .loop in
+    let s = c .before .before .before .before in
+    sym (fold-done (λ y d. union y (completedBelow (s .args .sheet .now) (s .args .x) d)) (l .r) 32 (l .rest) (c .loop-test .left)) ∙ l .inv .2
+
+-- ---- serial_below
+
+-- the mode that it goes on from
+serial-mode : (t : ℕ) (c : serial-below-lts.After-kept-child (serial-calls t) (serial-below-at t) serial-below.Post)
+    → (c .kept-child .result < nOf (c .before .before .args .sheet .now)) × (2 * (32 - c .kept-child .result) + 1 < t)
+serial-mode t c =
+    let p = c .before .before .pre in
+    let k = kept-child-next _ (sound _ (p .1 .0)) _ _ _ (p .1 .1) (p .1 .3) (c .kept-child .ensures) in
+    (k .1, omega (arith, p .0, k .0, mode-small _ (p .1 .0) _ (k .1)))
+
+serial-below-kept-child-requires : (t : ℕ) → serial-below-lts.Need-kept-child-requires (serial-calls t) (serial-below-at t) serial-below.Post
+serial-below-kept-child-requires t c κs = let p = c .before .pre .1 in (p .0, p .1, p .2)
+
+serial-below-single-requires : (t : ℕ) → serial-below-lts.Need-single-requires (serial-calls t) (serial-below-at t) serial-below.Post
+serial-below-single-requires t c κs = mode-small _ (c .before .before .pre .1 .0) _ (serial-mode t c .0)
+
+serial-below-below-requires : (t : ℕ) → serial-below-lts.Need-below-requires (serial-calls t) (serial-below-at t) serial-below.Post
+serial-below-below-requires t c κs =
+    let p = c .before .before .before .pre .1 in
+    let k = serial-mode t (c .before) in
+    (k .1, (p .0, k .0, p .2))
+
+serial-below-returns : (t : ℕ) → serial-below-lts.Need-returns (serial-calls t) (serial-below-at t) serial-below.Post
+serial-below-returns t c =
+    let p = c .before .before .before .before .pre .1 in
+    serial-done _ (sound _ (p .0)) _ _ _ _ _ (p .1) (p .3) (c .before .before .kept-child .ensures) (c .before .single .ensures) (c .below .ensures)
+
+pub +below+parallel-below+serial-below-spec : {M : Type 1} → statement M
++below+parallel-below+serial-below-spec =
+    close μ-below μ-parallel-below μ-serial-below
+    (λ t. below-lts.spec (below-calls t) (below-at t) below.Post
+    (below-mul-if1 t) (below-element-copy-out-if1 t) (below-returns t) (below-is-serial-requires t)
+    (below-serial-below-requires t) (below-parallel-below-requires t) (below-returns-2 t) (below-returns-3 t))
+    (λ t. parallel-below-lts.spec (parallel-calls t) (parallel-below-at t) parallel-below.Post Inv-loop μ-loop
+    (parallel-below-mul-r t) (parallel-below-element-copy-out-r t) (parallel-below-loop-holds t)
+    (parallel-below-lowest-requires t) (parallel-below-below-requires t) (parallel-below-without-lowest-requires t)
+    (parallel-below-loop-less t) (parallel-below-loop-again t) (parallel-below-returns t))
+    λ t. serial-below-lts.spec (serial-calls t) (serial-below-at t) serial-below.Post
+    (serial-below-kept-child-requires t) (serial-below-single-requires t) (serial-below-below-requires t)
+    (serial-below-returns t)
