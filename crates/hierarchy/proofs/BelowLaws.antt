@@ -7,6 +7,7 @@ use mathlib.Core.List.{List}
 use Prim.Native.Nat.{ℕ, zero, suc, _+_, _^_, _≤_, _<_}
 use native.Mathlib.Nat.{lt-of-le-of-lt}
 use native.Mathlib.Omega.{arith}
+use lib.Bits.{or-zero-r}
 use lib.Dec.{T, eqb, ltb, eqb→eq, leb→le, T-not, not-T}
 use borrow.Author.Tests.{eqb-true, eqb-false, eq-eqb, ne-eqb}
 use Rattle.sets.specs.Sets.{has, union, meet, single, members, highest, some, someIn}
@@ -157,8 +158,9 @@ module _ (s : List ℕ) (sd : Sound s) where
     unfolding branch
     branch-of c b d p q = rw (p, q)
 
-    pub serial-done : (m c b d : ℕ) → m < nOf s → kind s m ≡ 1 → c ≡ keptChild s x m → b ≡ single c → d ≡ completedBelow s x c → union b d ≡ completedBelow s x m
-    serial-done m c b d l k e p q = branch-of c b d p q ∙ ap (branch s x) e ∙ sym (completed-below-serial m l k)
+    -- what is below a serial mode, from the child that it takes
+    pub serial-done : (m c r : ℕ) → m < nOf s → kind s m ≡ 1 → c ≡ keptChild s x m → r ≡ branch s x c → r ≡ completedBelow s x m
+    serial-done m c r l k e p = p ∙ ap (branch s x) e ∙ sym (completed-below-serial m l k)
 
     -- ---- which modes are in a branch
 
@@ -199,13 +201,21 @@ module _ (s : List ℕ) (sd : Sound s) where
             (gather-i (isChild s m) (branch s x) (nOf s) y c (t .small) (t .child) h)
 
     -- a mode without children has nothing below it
-    pub completed-below-childless : (m : ℕ) → m < nOf s → children s m ≡ 0 → completedBelow s x m ≡ 0
+    completed-below-childless : (m : ℕ) → m < nOf s → children s m ≡ 0 → completedBelow s x m ≡ 0
     completed-below-childless m l e =
         same-members (λ y. is-false (has (completedBelow s x m) y) (λ h. none y (completed-below-e m y l h)) ∙ sym (has-none y))
       where
         none : (y : ℕ) → (c : ℕ) × ChildStep m c × T (has (branch s x c) y) → ⊥
         none y r =
             of-false (ap (λ (z : ℕ). has z (r .0)) e ∙ has-none (r .0)) (children-i s m (r .0) (r .1 .small) (r .1 .child))
+
+    -- so that nothing is added for it
+    pub childless-union : (c r : ℕ) → c < nOf s → children s c ≡ 0 → union r (completedBelow s x c) ≡ r
+    childless-union c r l e = ap (union r) (completed-below-childless c l e) ∙ or-zero-r r
+
+    pub childless-branch : (c b : ℕ) → c < nOf s → children s c ≡ 0 → b ≡ single c → b ≡ branch s x c
+    unfolding branch
+    childless-branch c b l e p = p ∙ sym (childless-union c (single c) l e)
 
     -- below a parallel mode are its children, with what is below each of them
     pub completed-below-members : (m : ℕ) → m < nOf s → (kind s m ≡ 1 → ⊥)

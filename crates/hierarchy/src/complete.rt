@@ -1,5 +1,5 @@
-// Completion. The modes below a serial mode and those below a parallel one are found by two functions that call each other; the
-// modes numbered above the present one fall. The masks of children say where to go.
+// Completion. The modes below a serial mode and those below a parallel one are found by two functions that call each other, through
+// `below`, which chooses; the modes numbered above the present one fall. A mode without children, as most are, is not called for.
 ghost use mathlib.Core.Path.{_≡_};
 ghost use Prim.Native.Nat.{_<_};
 ghost use Rattle.sets.specs.Sets.{single};
@@ -33,7 +33,11 @@ fn serial_below(sheet: &[u32], children: &[u32; 32], x: u32, m: usize) -> u32
     ensures { λ r. ⌜ r ≡ completedBelow (now (sheet .entry)) x m ⌝ }
 {
     let c = kept_child(sheet, children, x, m);
-    modes::single(c) | below(sheet, children, x, c)
+    let r = modes::single(c);
+    if children[c] == 0 {
+        return r;
+    }
+    r | below(sheet, children, x, c)
 }
 
 // The modes that completing mode m, parallel or atomic, puts below it for the set x.
@@ -47,20 +51,20 @@ fn parallel_below(sheet: &[u32], children: &[u32; 32], x: u32, m: usize) -> u32
     let mut r = children[m];
     let mut rest = r;
     while rest != 0 {
-        r |= below(sheet, children, x, modes::lowest(rest));
+        let c = modes::lowest(rest);
+        if children[c] != 0 {
+            r |= below(sheet, children, x, c);
+        }
         rest = modes::without_lowest(rest);
     }
     r
 }
 
-// The modes that completing mode m, for the set x, puts below it: none where it has no child, as most have.
+// The modes that completing mode m, of any kind, puts below it for the set x.
 fn below(sheet: &[u32], children: &[u32; 32], x: u32, m: usize) -> u32
     requires { ⌜ (sheetRefusal (now sheet) ≡ 0) × (m < nOf (now sheet)) × Children (now sheet) (now children) ⌝ }
     ensures { λ r. ⌜ r ≡ completedBelow (now (sheet .entry)) x m ⌝ }
 {
-    if children[m] == 0 {
-        return 0;
-    }
     if is_serial(sheet, m) {
         serial_below(sheet, children, x, m)
     } else {
@@ -73,7 +77,11 @@ pub fn completed(sheet: &[u32], children: &[u32; 32], x: u32, m: usize) -> u32
     requires { ⌜ (sheetRefusal (now sheet) ≡ 0) × (m < nOf (now sheet)) × Children (now sheet) (now children) ⌝ }
     ensures { λ r. ⌜ r ≡ branch (now (sheet .entry)) x m ⌝ }
 {
-    modes::single(m) | below(sheet, children, x, m)
+    let r = modes::single(m);
+    if children[m] == 0 {
+        return r;
+    }
+    r | below(sheet, children, x, m)
 }
 
 // Power-on's modes: the root, completed.

@@ -18,12 +18,13 @@ use Rattle.sets.proofs.Quantifiers.{some-same, some-false}
 use Rattle.sets.proofs.Highest.{Highest, highest-member}
 use Rattle.sets.proofs.Loops.{row-turn}
 use Rattle.meaning.specs.Sheet.{nOf, parent, isChild, contains, strictlyContains, meetingFrom, meetingOf}
-use Rattle.meaning.specs.Within.{within}
-use Rattle.meaning.proofs.SheetLaws.{Rooted, parent-le, parent-n}
+use Rattle.meaning.specs.Within.{within, withinEach}
+use Rattle.meaning.proofs.ListLaws.{row-at}
+use Rattle.meaning.proofs.SheetLaws.{Rooted, parent-n}
 use Rattle.meaning.proofs.Containment.{Within, here, up, within-le, within-root, within-trans, within-strict, contains-e, contains-i}
 use Rattle.meaning.proofs.Fuel.{meeting-climbs, climb-found, climb-step}
 use Rattle.meaning.proofs.WithinLaws.{contains-strictly, strictly-by-child, has-within, within-none, below-or-not}
-use Rattle.sheet.specs.Masks.{containers, Containers}
+use Rattle.sheet.specs.Masks.{containers, Containers, Withins}
 use Rattle.sheet.proofs.Climb.{contains-step, contains-end, meeting-start}
 use Rattle.sheet.proofs.Passes.{Handed, handedFrom, handedAll, handed-start, handed-turn, handed-whole}
 
@@ -73,6 +74,9 @@ module _ (s : List ℕ) (ro : Rooted s) where
       ∙ sym (contains-strictly s m i) ∙ sym (has-setOf (nOf s) (contains s m) i l))
       (λ (l : nOf s ≤ i). ap₂ _||_ (within-none s m i l) (has-single m i ∙ ne-eqb i m (λ e. omega arith)) ∙ sym (inside-none m i l)) (below-or-not i (nOf s))
 
+  pub inside-is : (m : ℕ) → m < nOf s → union (within s m) (single m) ≡ setOf (nOf s) (contains s m)
+  inside-is m k = same-members (λ i. has-inside m i k)
+
   word-whole : (words : List ℕ) (m p : ℕ) → m ≤ p + 1 → WithinFrom s m words → getD words p 0 ≡ within s p
   word-whole words m p h a = same-members (λ i. a p i ∙ handed-whole s (none s) (handsOn s) ro m p i h ∙ within-children p i)
 
@@ -107,7 +111,7 @@ module _ (s : List ℕ) (ro : Rooted s) where
   pub containers-start : (words : List ℕ) → 0 < nOf s → getD words 0 0 ≡ 1 → ContainersTo s 1 words
   containers-start words l e p k = let z : p ≡ 0 = omega arith in rw (z, e) (root-alone l)
 
-  contains-parent : (p m : ℕ) → 0 < m → m < nOf s → contains s p m ≡ (contains s p (parent s m) || eqb p m)
+  pub contains-parent : (p m : ℕ) → 0 < m → m < nOf s → contains s p m ≡ (contains s p (parent s m) || eqb p m)
   contains-parent p m pos l =
       bool-ext (contains s p m) (contains s p (parent s m) || eqb p m)
       (λ h. go (eqb p m) refl (contains-e s ro p m h))
@@ -211,6 +215,14 @@ containers-word s words h p l = h p l
 
 pub contains-word : (s words : List ℕ) → Rooted s → Containers s words → (a m : ℕ) → m < nOf s → has (getD words m 0) a ≡ contains s a m
 contains-word s words ro h a m l = ap (λ (w : ℕ). has w a) (containers-word s words h m l) ∙ has-containers s ro m a l
+
+pub within-word : (s words : List ℕ) → Withins s words → (p : ℕ) → p < nOf s → getD words p 0 ≡ within s p
+unfolding Withins
+within-word s words h p l = h p l
+
+pub withins-of : (s words : List ℕ) → nOf s ≤ 32 → words ≡ withinEach s → Withins s words
+unfolding Withins withinEach
+withins-of s words small e p l = ap (λ (w : List ℕ). getD w p 0) e ∙ row-at 32 (within s) p (omega arith)
 
 pub meeting-words : (s words : List ℕ) → Rooted s → nOf s ≤ 32 → Containers s words → (a b : ℕ) → a < nOf s → b < nOf s → contains s a b ≡ false → contains s b a ≡ false
     → let x = meet (getD words a 0) (getD words b 0) in (0 < x) × (highest 32 x ≡ meetingOf s a b) × (highest 32 x < nOf s)

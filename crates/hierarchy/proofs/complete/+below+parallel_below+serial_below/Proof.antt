@@ -2,6 +2,7 @@
 -- their contracts. The measure of each is twice 32 less the mode, since a child has a higher number, and one more for `below`, which
 -- calls for the same mode. The loop's invariant: r with what is below the children in rest is what is below m. Assumes nothing.
 use mathlib.Core.Path.{_≡_, refl, sym, _∙_}
+use mathlib.Core.Logic.{⊎-elim}
 use Prim.Native.Nat.{ℕ, _+_, _-_, _*_, _^_, _<_}
 use native.Mathlib.Omega.{arith}
 use borrow.Author.Needs.{needs}
@@ -17,7 +18,7 @@ use Rattle.meaning.proofs.SheetLaws.{sound}
 use Rattle.sheet.proofs.Past.{mode-small, row-read}
 use Rattle.sheet.proofs.MaskLaws.{children-lt, children-word}
 use Rattle.hierarchy.specs.Below.{completedBelow}
-use Rattle.hierarchy.proofs.BelowLaws.{serial-of, other-of, children-next, kept-child-next, serial-done, completed-below-childless, completed-below-members}
+use Rattle.hierarchy.proofs.BelowLaws.{serial-of, other-of, children-next, kept-child-next, branch-of, serial-done, childless-union, childless-branch, completed-below-members}
 use Rattle.hierarchy.proofs.ConsistentLaws.{fits-32}
 use Rattle.hierarchy.proofs.complete.below.Reads as below
 use Rattle.hierarchy.proofs.complete.below.Kinds as below-kinds
@@ -79,35 +80,24 @@ serial-calls t = (kept-child-reads.Asked, kept-child-reads.Learnt, single-reads.
 
 -- ---- below
 
-below-mul-if1 : (t : ℕ) → below-lts.Need-mul-if1 (below-calls t) (below-at t) below.Post
-below-mul-if1 t c = let p = c .before .pre .1 in omega (arith, mode-small _ (p .0) _ (p .1))
-
-below-element-copy-out-if1 : (t : ℕ) → below-lts.Need-element-copy-out-if1 (below-calls t) (below-at t) below.Post
-below-element-copy-out-if1 t c = let p = c .before .pre .1 in mode-small _ (p .0) _ (p .1)
-
-below-returns : (t : ℕ) → below-lts.Need-returns (below-calls t) (below-at t) below.Post
-below-returns t c =
-    let p = c .before .before .before .pre .1 in
-    sym (completed-below-childless _ (sound _ (p .0)) _ _ (p .1) (sym (children-word _ _ _ (p .0) (p .1) (p .2)) ∙ c .if1 .taken))
-
 below-is-serial-requires : (t : ℕ) → below-lts.Need-is-serial-requires (below-calls t) (below-at t) below.Post
-below-is-serial-requires t c κs = let p = c .before .before .before .pre .1 in row-read _ (p .0) _ (p .1)
+below-is-serial-requires t c κs = let p = c .before .pre .1 in row-read _ (p .0) _ (p .1)
 
 below-serial-below-requires : (t : ℕ) → below-lts.Need-serial-below-requires (below-calls t) (below-at t) below.Post
 below-serial-below-requires t c κs =
-    let p = c .before .before .before .before .before .pre in
-    (omega (arith, p .0), (p .1 .0, p .1 .1, p .1 .2, serial-of _ _ (c .before .is-serial .ensures) (c .if2 .taken)))
+    let p = c .before .before .before .pre in
+    (omega (arith, p .0), (p .1 .0, p .1 .1, p .1 .2, serial-of _ _ (c .before .is-serial .ensures) (c .if1 .taken)))
 
 below-parallel-below-requires : (t : ℕ) → below-lts.Need-parallel-below-requires (below-calls t) (below-at t) below.Post
 below-parallel-below-requires t c κs =
-    let p = c .before .before .before .before .before .pre in
-    (omega (arith, p .0), (p .1 .0, p .1 .1, p .1 .2, other-of _ _ (c .before .is-serial .ensures) (c .if2 .left)))
+    let p = c .before .before .before .pre in
+    (omega (arith, p .0), (p .1 .0, p .1 .1, p .1 .2, other-of _ _ (c .before .is-serial .ensures) (c .if1 .left)))
+
+below-returns : (t : ℕ) → below-lts.Need-returns (below-calls t) (below-at t) below.Post
+below-returns t c = c .serial-below .ensures
 
 below-returns-2 : (t : ℕ) → below-lts.Need-returns-2 (below-calls t) (below-at t) below.Post
-below-returns-2 t c = c .serial-below .ensures
-
-below-returns-3 : (t : ℕ) → below-lts.Need-returns-3 (below-calls t) (below-at t) below.Post
-below-returns-3 t c = c .parallel-below .ensures
+below-returns-2 t c = c .parallel-below .ensures
 
 -- ---- parallel_below
 
@@ -147,26 +137,37 @@ parallel-mode t c =
 parallel-below-lowest-requires : (t : ℕ) → parallel-below-lts.Need-lowest-requires (parallel-calls t) (parallel-below-at t) parallel-below.Post Inv-loop μ-loop
 parallel-below-lowest-requires t c κs = search needs
 
+parallel-below-mul-if1 : (t : ℕ) → parallel-below-lts.Need-mul-if1 (parallel-calls t) (parallel-below-at t) parallel-below.Post Inv-loop μ-loop
+parallel-below-mul-if1 t c = omega (arith, mode-small _ (c .before .before .before .before .before .pre .1 .0) _ (parallel-mode t c .0))
+
+parallel-below-element-copy-out-if1 : (t : ℕ) → parallel-below-lts.Need-element-copy-out-if1 (parallel-calls t) (parallel-below-at t) parallel-below.Post Inv-loop μ-loop
+parallel-below-element-copy-out-if1 t c = mode-small _ (c .before .before .before .before .before .pre .1 .0) _ (parallel-mode t c .0)
+
 parallel-below-below-requires : (t : ℕ) → parallel-below-lts.Need-below-requires (parallel-calls t) (parallel-below-at t) parallel-below.Post Inv-loop μ-loop
 parallel-below-below-requires t c κs =
-    let p = c .before .before .before .before .before .pre .1 in
-    let k = parallel-mode t c in
+    let p = c .before .before .before .before .before .before .before .pre .1 in
+    let k = parallel-mode t (c .before .before) in
     (k .1, (p .0, k .0, p .2))
 
 parallel-below-without-lowest-requires : (t : ℕ) → parallel-below-lts.Need-without-lowest-requires (parallel-calls t) (parallel-below-at t) parallel-below.Post Inv-loop μ-loop
-parallel-below-without-lowest-requires t c κs = parallel-turn t (c .before) refl .filled
+parallel-below-without-lowest-requires t c κs = parallel-turn t (c .before .before) refl .filled
 
 parallel-below-loop-less : (t : ℕ) → parallel-below-lts.Need-loop-less (parallel-calls t) (parallel-below-at t) parallel-below.Post Inv-loop μ-loop
-parallel-below-loop-less t c = parallel-turn t (c .before .before) (c .without-lowest .ensures) .less
+parallel-below-loop-less t c = parallel-turn t (c .before .before .before) (c .without-lowest .ensures) .less
 
 parallel-below-loop-again : (t : ℕ) → parallel-below-lts.Need-loop-again (parallel-calls t) (parallel-below-at t) parallel-below.Post Inv-loop μ-loop
 parallel-below-loop-again t c =
-    let u = parallel-turn t (c .before .before) (c .without-lowest .ensures) in
-    let s = c .before .before .before .before .before .before .before in
-    let l = c .before .before .before .before .loop in (
+    let u = parallel-turn t (c .before .before .before) (c .without-lowest .ensures) in
+    let s = c .before .before .before .before .before .before .before .before in
+    let p = s .pre .1 in
+    let l = c .before .before .before .before .before .loop in
+    let k = parallel-mode t (c .before .before .before) .0 in
+    let go = fold-turn (λ y d. union y (completedBelow (s .args .sheet .now) (s .args .x) d)) (l .r) u ∙ l .inv .2 in (
       u .fits,
       subset-turn (children (s .args .sheet .now) (s .args .m)) u (l .inv .1),
-      rw (c .before .below .ensures) (fold-turn (λ y d. union y (completedBelow (s .args .sheet .now) (s .args .x) d)) (l .r) u ∙ l .inv .2),
+      ⊎-elim (λ w. rw (w .2, w .1 .ensures) go)
+          (λ w. rw (w .1 ∙ sym (childless-union _ (sound _ (p .0)) (s .args .x) _ (l .r) k (sym (children-word _ _ _ (p .0) k (p .2)) ∙ w .0 .left))) go)
+          (c .before .if1 .came),
     )
 
 parallel-below-returns : (t : ℕ) → parallel-below-lts.Need-returns (parallel-calls t) (parallel-below-at t) parallel-below.Post Inv-loop μ-loop
@@ -191,27 +192,43 @@ serial-below-kept-child-requires t c κs = let p = c .before .pre .1 in (p .0, p
 serial-below-single-requires : (t : ℕ) → serial-below-lts.Need-single-requires (serial-calls t) (serial-below-at t) serial-below.Post
 serial-below-single-requires t c κs = mode-small _ (c .before .before .pre .1 .0) _ (serial-mode t c .0)
 
-serial-below-below-requires : (t : ℕ) → serial-below-lts.Need-below-requires (serial-calls t) (serial-below-at t) serial-below.Post
-serial-below-below-requires t c κs =
-    let p = c .before .before .before .pre .1 in
-    let k = serial-mode t (c .before) in
-    (k .1, (p .0, k .0, p .2))
+serial-below-mul-if1 : (t : ℕ) → serial-below-lts.Need-mul-if1 (serial-calls t) (serial-below-at t) serial-below.Post
+serial-below-mul-if1 t c = omega (arith, mode-small _ (c .before .before .before .pre .1 .0) _ (serial-mode t (c .before) .0))
+
+serial-below-element-copy-out-if1 : (t : ℕ) → serial-below-lts.Need-element-copy-out-if1 (serial-calls t) (serial-below-at t) serial-below.Post
+serial-below-element-copy-out-if1 t c = mode-small _ (c .before .before .before .pre .1 .0) _ (serial-mode t (c .before) .0)
 
 serial-below-returns : (t : ℕ) → serial-below-lts.Need-returns (serial-calls t) (serial-below-at t) serial-below.Post
 serial-below-returns t c =
-    let p = c .before .before .before .before .pre .1 in
-    serial-done _ (sound _ (p .0)) _ _ _ _ _ (p .1) (p .3) (c .before .before .kept-child .ensures) (c .before .single .ensures) (c .below .ensures)
+    let p = c .before .before .before .before .before .pre .1 in
+    let k = serial-mode t (c .before .before .before) .0 in
+    serial-done _ (sound _ (p .0)) _ _ _ _ (p .1) (p .3) (c .before .before .before .kept-child .ensures)
+    (childless-branch _ (sound _ (p .0)) _ _ _ k (sym (children-word _ _ _ (p .0) k (p .2)) ∙ c .if1 .taken) (c .before .before .single .ensures))
+
+serial-below-below-requires : (t : ℕ) → serial-below-lts.Need-below-requires (serial-calls t) (serial-below-at t) serial-below.Post
+serial-below-below-requires t c κs =
+    let p = c .before .before .before .before .before .pre .1 in
+    let k = serial-mode t (c .before .before .before) in
+    (k .1, (p .0, k .0, p .2))
+
+serial-below-returns-2 : (t : ℕ) → serial-below-lts.Need-returns-2 (serial-calls t) (serial-below-at t) serial-below.Post
+serial-below-returns-2 t c =
+    let p = c .before .before .before .before .before .before .pre .1 in
+    serial-done _ (sound _ (p .0)) _ _ _ _ (p .1) (p .3) (c .before .before .before .before .kept-child .ensures)
+    (branch-of _ (sound _ (p .0)) _ _ _ _ (c .before .before .before .single .ensures) (c .below .ensures))
 
 pub +below+parallel-below+serial-below-spec : {M : Type 1} → statement M
 +below+parallel-below+serial-below-spec =
     close μ-below μ-parallel-below μ-serial-below
     (λ t. below-lts.spec (below-calls t) (below-at t) below.Post
-    (below-mul-if1 t) (below-element-copy-out-if1 t) (below-returns t) (below-is-serial-requires t)
-    (below-serial-below-requires t) (below-parallel-below-requires t) (below-returns-2 t) (below-returns-3 t))
+    (below-is-serial-requires t) (below-serial-below-requires t) (below-parallel-below-requires t) (below-returns t)
+    (below-returns-2 t))
     (λ t. parallel-below-lts.spec (parallel-calls t) (parallel-below-at t) parallel-below.Post Inv-loop μ-loop
     (parallel-below-mul-r t) (parallel-below-element-copy-out-r t) (parallel-below-loop-holds t)
-    (parallel-below-lowest-requires t) (parallel-below-below-requires t) (parallel-below-without-lowest-requires t)
+    (parallel-below-lowest-requires t) (parallel-below-mul-if1 t) (parallel-below-element-copy-out-if1 t)
+    (parallel-below-below-requires t) (parallel-below-without-lowest-requires t)
     (parallel-below-loop-less t) (parallel-below-loop-again t) (parallel-below-returns t))
     λ t. serial-below-lts.spec (serial-calls t) (serial-below-at t) serial-below.Post
-    (serial-below-kept-child-requires t) (serial-below-single-requires t) (serial-below-below-requires t)
-    (serial-below-returns t)
+    (serial-below-kept-child-requires t) (serial-below-single-requires t) (serial-below-mul-if1 t)
+    (serial-below-element-copy-out-if1 t) (serial-below-returns t) (serial-below-below-requires t)
+    (serial-below-returns-2 t)
