@@ -1,22 +1,23 @@
 -- Unions of words over the modes within a mode and over those that contain it, made in one pass over the modes. Assumes nothing.
 use mathlib.Core.Path.{_≡_, refl, sym, ap, ap₂, _∙_, subst}
 use mathlib.Core.Logic.{_⊎_, inl, inr, ⊎-elim}
-use mathlib.Core.Bool.{Bool, true, false, _&&_, _||_}
+use mathlib.Core.Bool.{Bool, true, false, _&&_, _||_, and-false}
 use mathlib.Core.List.{List}
 use Prim.Native.Nat.{ℕ, _+_, _-_, _≤_, _<_}
 use native.Mathlib.Omega.{arith}
 use lib.Arith.{lt-of-le-ne}
 use lib.Dec.{T, eqb, eqb→eq}
 use lib.ListN.{length, getD, set}
-use Rattle.sets.specs.Sets.{has, union, some}
+use Rattle.sets.specs.Sets.{has, union, setOf, some}
 use Rattle.sets.proofs.Tests.{and-l, and-r, and-i, or-e, or-l, or-r, of-true, bool-ext}
-use Rattle.sets.proofs.Membership.{has-union}
+use Rattle.sets.proofs.Membership.{has-above, has-union, has-setOf, setOf-lt, same-members}
 use Rattle.sets.proofs.Facts.{some-e, some-i}
+use Rattle.sets.proofs.Quantifiers.{some-same, some-false, some-at}
 use Rattle.sets.proofs.Loops.{set-word, set-word-has}
 use Rattle.meaning.specs.Sheet.{nOf, parent, isChild, contains, strictlyContains}
 use Rattle.meaning.proofs.SheetLaws.{Rooted}
 use Rattle.meaning.proofs.Containment.{within-le, contains-same, contains-e}
-use Rattle.meaning.proofs.WithinLaws.{contains-strictly, strictly-by-child}
+use Rattle.meaning.proofs.WithinLaws.{below-or-not, contains-strictly, strictly-by-child}
 use Rattle.sheet.proofs.ContainmentLaws.{contains-parent}
 use Rattle.sheet.proofs.Passes.{Handed, handedAll, handed-start, handed-turn, handed-whole}
 use Rattle.hierarchy.specs.Unions.{UnionWithin, UnionContainers}
@@ -156,3 +157,29 @@ module _ (s words : List ℕ) where
     pub taken-end : (unions : List ℕ) (m : ℕ) → nOf s ≤ m → TakenTo m unions → UnionContainers s words unions
     unfolding UnionContainers
     taken-end unions m h a p i l = a .0 p i (omega arith)
+
+-- ---- words of numbers t below w, each in the word of its mode f t
+
+module _ (s words : List ℕ) (w : ℕ) (f : ℕ → ℕ) (small : (t : ℕ) → t < w → f t < nOf s) (by : (m : ℕ) → m < nOf s → getD words m 0 ≡ setOf w (λ t. eqb (f t) m)) where
+  -- where bit i is in the words of the modes that pass a test: below w, and its mode passes
+  tested : (test : ℕ → Bool) (i : ℕ) → some (nOf s) (λ m. test m && own s words m i) ≡ has (setOf w (λ t. test (f t))) i
+  tested test i =
+      ⊎-elim
+      (λ (l : i < w).
+      some-same (nOf s) (λ m. test m && own s words m i) (λ m. test m && eqb (f i) m)
+      (λ m k. ap (λ (b : Bool). test m && b) (ap (λ (x : ℕ). has x i) (by m k) ∙ has-setOf w (λ t. eqb (f t) m) i l))
+      ∙ some-at (nOf s) (f i) test (small i l)
+      ∙ sym (has-setOf w (λ t. test (f t)) i l))
+      (λ (l : w ≤ i).
+      some-false (nOf s) (λ m. test m && own s words m i)
+      (λ m k.
+      ap (λ (b : Bool). test m && b) (ap (λ (x : ℕ). has x i) (by m k) ∙ has-above w (setOf w (λ t. eqb (f t) m)) i (setOf-lt w (λ t. eqb (f t) m)) l) ∙ and-false (test m))
+      ∙ sym (has-above w (setOf w (λ t. test (f t))) i (setOf-lt w (λ t. test (f t))) l)) (below-or-not i w)
+
+  pub within-by : (unions : List ℕ) → UnionWithin s words unions → (p : ℕ) → p < nOf s → getD unions p 0 ≡ setOf w (λ t. contains s p (f t))
+  unfolding UnionWithin
+  within-by unions u p l = same-members (λ i. u p i l ∙ tested (contains s p) i)
+
+  pub containers-by : (unions : List ℕ) → UnionContainers s words unions → (p : ℕ) → p < nOf s → getD unions p 0 ≡ setOf w (λ t. contains s (f t) p)
+  unfolding UnionContainers
+  containers-by unions u p l = same-members (λ i. u p i l ∙ tested (λ m. contains s m p) i)

@@ -7,6 +7,7 @@ use lib.Dec.{eqb, ltb}
 use lib.ListN.{getD}
 use Rattle.sets.specs.Sets.{single, setOf}
 use Rattle.meaning.specs.Sheet.{tOf, meeting}
+use Rattle.meaning.specs.Hierarchy.{exits, enters}
 use Rattle.meaning.specs.Reaction.{isDelay, delay, alternative}
 use Rattle.reaction.specs.Plan.{sourcesIn, noSets, eventsOnly}
 
@@ -18,6 +19,13 @@ module _ (s : List ℕ) where
   -- word m of FROM: the transitions with source m
   abbrev pub fromOf : ℕ → ℕ
   fromOf m = sourcesIn s (single m)
+
+  -- word t of LOSES and of GAINS: the transitions whose source t exits, and enters
+  abbrev pub losesOf : ℕ → ℕ
+  losesOf t = sourcesIn s (exits s t)
+
+  abbrev pub gainsOf : ℕ → ℕ
+  gainsOf t = sourcesIn s (enters s t)
 
   -- an input set can trigger t by itself: t has delay 0, or event terms alone
   unfoldable pub isSure : ℕ → Bool
@@ -33,3 +41,7 @@ module _ (s : List ℕ) where
 -- word t is the meeting mode of transition t
 unfoldable pub Meetings : List ℕ → List ℕ → Type 0
 Meetings s meets = (t : ℕ) → t < tOf s → getD meets t 0 ≡ meeting s t
+
+-- word m is the set of the transitions with meeting mode m
+unfoldable pub ByMeeting : List ℕ → List ℕ → Type 0
+ByMeeting s words = (m : ℕ) → m < 32 → getD words m 0 ≡ setOf (tOf s) (λ t. eqb (meeting s t) m)
