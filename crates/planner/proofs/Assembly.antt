@@ -19,9 +19,8 @@ use Rattle.meaning.specs.Hierarchy.{complete, exits, enters}
 use Rattle.meaning.proofs.ListLaws.{rowFrom-ext}
 use Rattle.meaning.proofs.SheetLaws.{sound, n-le, t-le}
 use Rattle.reaction.specs.Plan.{exitsPart, entersPart, conflictsPart, yieldersPart, losesPart, gainsPart, delaysPart, hitsPart, fromPart, timersWord, mixedWord, startWord, planSize, Planned, sourcesIn, conflictsOf, yieldersOf, timers, timerDelay, mixed, hitsOf}
-use Rattle.planner.specs.Parts.{WordsAt, fromOf}
+use Rattle.planner.specs.Parts.{WordsAt, fromOf, losesOf, gainsOf}
 use Rattle.planner.proofs.PartLaws.{part-length, part-in, part-beside, part-word}
-use Rattle.planner.proofs.SourceLaws.{changeOf}
 use Rattle.planner.proofs.HitLaws.{inputs-le}
 
 -- ---- parts of a list as long as a plan
@@ -129,8 +128,8 @@ laid-zero i w {ps} d h b =
     (laid-clear (zeroPiece i w) ps (replicate planSize 0) refl (record { within = omega arith; inside = h }) (d .fit) b
     (λ t k. getD-replicate planSize (i + t) 0 0 (omega arith)))
 
-pub none-laid : Laid [] (replicate planSize 0)
-none-laid = record { fit = tt; is = refl }
+pub none-laid : {m : List ℕ} → m ≡ replicate planSize 0 → Laid [] m
+none-laid e = record { fit = tt; is = e }
 
 -- one more part is laid, or one word stored
 pub lay : (p : Piece) {ps : List Piece} {m n : List ℕ} → Fits p → Laid ps m → n ≡ over m (p .at) (rowFrom 0 (p .width) (p .word)) → Laid (p ∷ ps) n
@@ -159,10 +158,10 @@ module _ (s : List ℕ) where
   rowPiece i f = record { at = i; room = 64; width = tOf s; word = f }
 
   abbrev pub losesPiece : Piece
-  losesPiece = rowPiece losesPart (λ t. sourcesIn s (exits s t))
+  losesPiece = rowPiece losesPart (losesOf s)
 
   abbrev pub gainsPiece : Piece
-  gainsPiece = rowPiece gainsPart (λ t. sourcesIn s (enters s t))
+  gainsPiece = rowPiece gainsPart (gainsOf s)
 
   abbrev pub delaysPiece : Piece
   delaysPiece = record { at = delaysPart; room = 64; width = 64; word = timerDelay s }
@@ -210,27 +209,3 @@ module _ (s : List ℕ) where
 
     pub hits-fit : Fits hitsPiece
     hits-fit = record { within = inputs-le s h; inside = omega arith }
-
-    -- LOSES and GAINS: their words by the mode sets themselves
-    exits-word : (t : ℕ) → exits s t % 2 ^ 32 ≡ exits s t
-    unfolding exits
-    exits-word t = mod-eq-of-lt (lt-of-lt-of-le (setOf-lt (nOf s) _) (pow-le-pow-right {n = 2} (omega arith) (n-le s (sound s h))))
-
-    enters-word : (t : ℕ) → enters s t % 2 ^ 32 ≡ enters s t
-    unfolding enters complete
-    enters-word t = mod-eq-of-lt (lt-of-lt-of-le (setOf-lt (nOf s) _) (pow-le-pow-right {n = 2} (omega arith) (n-le s (sound s h))))
-
-    changes-are : (sets at : ℕ) (g : ℕ → ℕ) (m : List ℕ) {n : List ℕ} → ((t : ℕ) → g t % 2 ^ 32 ≡ g t) → WordsAt m sets (tOf s) g
-        → n ≡ over m at (rowFrom 0 (tOf s) (changeOf s m sets))
-        → n ≡ over m at (rowFrom 0 (tOf s) (λ t. sourcesIn s (g t)))
-    changes-are sets at g m w p e =
-        e ∙ ap (over m at) (rowFrom-ext (changeOf s m sets) (λ t. sourcesIn s (g t)) 0 (tOf s)
-        (λ u a b. ap (sourcesIn s) (ap (λ (x : ℕ). x % 2 ^ 32) (p u (omega arith)) ∙ w u)))
-
-    pub loses-are : {m n : List ℕ} → Laid ends m → n ≡ over m losesPart (rowFrom 0 (tOf s) (changeOf s m exitsPart)) → n ≡ over m losesPart (rowFrom 0 (tOf s) (λ t. sourcesIn s (exits s t)))
-    loses-are {m} d e = changes-are exitsPart losesPart (exits s) m exits-word (laid-has 1 d tt) e
-
-    pub gains-are : {m n : List ℕ} → Laid (losesPiece ∷ ends) m
-        → n ≡ over m gainsPart (rowFrom 0 (tOf s) (changeOf s m entersPart))
-        → n ≡ over m gainsPart (rowFrom 0 (tOf s) (λ t. sourcesIn s (enters s t)))
-    gains-are {m} d e = changes-are entersPart gainsPart (enters s) m enters-word (laid-has 1 d tt) e
