@@ -1,79 +1,81 @@
+-- `planner::conflicts::by_meeting` meets its contract: the transitions below t are added to the words of their meeting modes. The measure
+-- is what is left of the count. Assumes nothing.
+use mathlib.Core.Path.{_≡_, refl}
+use Prim.Native.Nat.{_-_, _≤_, _<_}
+use native.Mathlib.Omega.{arith}
+use borrow.Author.Needs.{needs}
+use lib.ListN.{length, getD, length-set}
+use Rattle.meaning.specs.Sheet.{tOf}
+use Rattle.meaning.proofs.SheetLaws.{sound, t-le}
+use Rattle.sheet.proofs.Past.{head-read}
+use Rattle.planner.proofs.ConflictLaws.{meetings-word, meetings-small, ByMeetingTo, by-meeting-start, by-meeting-turn, by-meeting-end}
 use Rattle.planner.proofs.conflicts.by_meeting.Statement.{statement}
 use Rattle.planner.proofs.conflicts.by_meeting.Tie as tie
-use Rattle.planner.proofs.conflicts.by_meeting.Reads as reads
-use Rattle.planner.proofs.conflicts.by_meeting.Lts as lts
-use Rattle.sets.proofs.transitions.single.Reads as single-reads
-use Rattle.sheet.proofs.words.transition_count.Reads as transition-count-reads
 
 abbrev Inv-loop : tie.InvT-loop
-Inv-loop sheet meets count r₀ t₀ r t = ?
+Inv-loop sheet meets count r₀ t₀ r t = (t ≤ tOf sheet) × (tOf sheet ≤ 64) × (length r ≡ 32) × ByMeetingTo sheet t r
 
 abbrev μ-loop : tie.MeasureT-loop
-μ-loop sheet meets count r₀ t₀ r t = ?
+μ-loop sheet meets count r₀ t₀ r t = tOf sheet - t
 
--- src/conflicts.rt:41:9
 transition-count-requires : tie.Need-transition-count-requires Inv-loop μ-loop
-transition-count-requires c κs = ?
+transition-count-requires c κs = head-read _ (c .before .pre .0)
 
--- src/conflicts.rt:44:5
 loop-holds : tie.Need-loop-holds Inv-loop μ-loop
-loop-holds c = ?
+loop-holds c =
+    let b = c .before .before in
+    (omega arith, t-le _ (sound _ (b .pre .0)), refl, by-meeting-start (b .args .sheet .now))
 
--- src/conflicts.rt:45:17
 mul-p : tie.Need-mul-p Inv-loop μ-loop
-mul-p c = ?
+mul-p c = omega arith
 
--- src/conflicts.rt:45:17
 element-copy-out-p : tie.Need-element-copy-out-p Inv-loop μ-loop
-element-copy-out-p c = ?
+element-copy-out-p c = omega arith
 
--- src/conflicts.rt:46:17
 single-requires : tie.Need-single-requires Inv-loop μ-loop
-single-requires c κs = ?
+single-requires c κs = omega arith
 
--- src/conflicts.rt:46:9
+-- the transition of a turn, and its meeting mode
+module _ (c : tie.After-single Inv-loop μ-loop) where
+  turned : c .before .before .before .loop .t < tOf (c .before .before .before .before .before .before .args .sheet .now)
+  turned = omega arith
+
+  small : getD (c .before .before .before .before .before .before .args .meets .now) (c .before .before .before .loop .t) 0 < 32
+  small = let b = c .before .before .before .before .before .before in meetings-small _ (b .pre .0) _ (b .pre .1) _ turned
+
 mul-r : tie.Need-mul-r Inv-loop μ-loop
-mul-r c = ?
+mul-r c = omega (arith, small c)
 
--- src/conflicts.rt:46:9
 array-read-r : tie.Need-array-read-r Inv-loop μ-loop
-array-read-r c = ?
+array-read-r c = small c
 
--- src/conflicts.rt:46:9
 array-write-r : tie.Need-array-write-r Inv-loop μ-loop
-array-write-r c = ?
+array-write-r c = small c
 
--- src/conflicts.rt:47:9
 add-t : tie.Need-add-t Inv-loop μ-loop
-add-t c = ?
+add-t c = omega arith
 
--- src/conflicts.rt:44:5
 loop-less : tie.Need-loop-less Inv-loop μ-loop
-loop-less c = ?
+loop-less c = search needs
 
--- src/conflicts.rt:44:5
 loop-again : tie.Need-loop-again Inv-loop μ-loop
-loop-again c = ?
+loop-again c =
+    let b = c .before .before .before .before .before .before in
+    let l = c .before .before .before .loop in
+    let p = meetings-word _ (b .pre .0) _ (b .pre .1) _ (turned c) in (
+      omega arith,
+      l .inv .1,
+      simp length-set (l .inv .2),
+      by-meeting-turn _ (l .r) (l .t) _ _ p (small c) (omega (arith, small c, l .inv .2)) (c .single .ensures) (l .inv .3),
+    )
 
--- src/conflicts.rt:37:1
 returns : tie.Need-returns Inv-loop μ-loop
-returns c = ?
+returns c =
+    let l = c .before .loop in
+    by-meeting-end _ (l .r) (l .t) (omega arith) (l .inv .3)
 
 pub by-meeting-spec : {M : Type 1} → statement M
 by-meeting-spec =
     tie.close
-    (tie.spec
-    Inv-loop
-    μ-loop
-    transition-count-requires
-    loop-holds
-    mul-p
-    element-copy-out-p
-    single-requires
-    mul-r
-    array-read-r
-    array-write-r
-    add-t
-    loop-less
-    loop-again
-    returns)
+    (tie.spec Inv-loop μ-loop transition-count-requires loop-holds mul-p element-copy-out-p single-requires mul-r
+    array-read-r array-write-r add-t loop-less loop-again returns)

@@ -6,34 +6,34 @@ use borrow.Author.Needs.{needs}
 use Rattle.rows.specs.Over.{over}
 use Rattle.meaning.specs.Lists.{rowFrom}
 use Rattle.meaning.specs.Sheet.{tOf, meeting}
-use Rattle.meaning.proofs.SheetLaws.{sound, t-le}
+use Rattle.meaning.proofs.SheetLaws.{sound, t-le, ends-apart}
 use Rattle.meaning.proofs.Containment.{ends}
-use Rattle.sheet.proofs.Past.{head-read, record-read}
+use Rattle.sheet.proofs.Past.{head-read, tree-read, record-read}
 use Rattle.planner.proofs.PartLaws.{part-none, front-turn}
-use Rattle.sheet.proofs.Past.{tree-read}
 use Rattle.planner.proofs.ConflictLaws.{meetings-done}
 use Rattle.planner.proofs.conflicts.meetings.Statement.{statement}
 use Rattle.planner.proofs.conflicts.meetings.Tie as tie
 
 abbrev Inv-loop : tie.InvT-loop
-Inv-loop sheet count r₀ t₀ r t = (t ≤ tOf sheet) × (tOf sheet ≤ 64) × (r ≡ over r₀ 0 (rowFrom 0 t (meeting sheet)))
+Inv-loop sheet containers count r₀ t₀ r t = (t ≤ tOf sheet) × (tOf sheet ≤ 64) × (r ≡ over r₀ 0 (rowFrom 0 t (meeting sheet)))
 
 abbrev μ-loop : tie.MeasureT-loop
-μ-loop sheet count r₀ t₀ r t = tOf sheet - t
+μ-loop sheet containers count r₀ t₀ r t = tOf sheet - t
 
 transition-count-requires : tie.Need-transition-count-requires Inv-loop μ-loop
-transition-count-requires c κs = head-read (c .before .args .sheet .now) (c .before .pre)
+transition-count-requires c κs = head-read (c .before .args .sheet .now) (c .before .pre .0)
 
 loop-holds : tie.Need-loop-holds Inv-loop μ-loop
-loop-holds c = (omega arith, t-le _ (sound _ (c .before .before .pre)), part-none _ 0 _)
+loop-holds c = (omega arith, t-le _ (sound _ (c .before .before .pre .0)), part-none _ 0 _)
 
 meeting-requires : tie.Need-meeting-requires Inv-loop μ-loop
 meeting-requires c κs =
     let b = c .before .before .before .before in
     let s = b .args .sheet .now in
     let l : c .before .loop .t < tOf s = omega arith in
-    let e = ends s (sound s (b .pre)) (c .before .loop .t) l in
-    (tree-read s (b .pre), record-read s (b .pre) (c .before .loop .t) l, e .source-n, e .target-n)
+    let e = ends s (sound s (b .pre .0)) (c .before .loop .t) l in
+    let apart = ends-apart s (sound s (b .pre .0)) (c .before .loop .t) l in
+    (tree-read s (b .pre .0), record-read s (b .pre .0) (c .before .loop .t) l, b .pre .1, e .source-n, e .target-n, apart .0, apart .1)
 
 mul-r : tie.Need-mul-r Inv-loop μ-loop
 mul-r c = omega arith
@@ -58,7 +58,7 @@ returns : tie.Need-returns Inv-loop μ-loop
 returns c =
     let b = c .before .before .before .before in
     let l = c .before .loop in
-    meetings-done (b .args .sheet .now) (b .pre) _ (l .r) (l .t) (omega arith) (omega arith) (l .inv .2)
+    meetings-done (b .args .sheet .now) (b .pre .0) _ (l .r) (l .t) (omega arith) (omega arith) (l .inv .2)
 
 pub meetings-spec : {M : Type 1} → statement M
 meetings-spec =
