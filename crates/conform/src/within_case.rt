@@ -3,16 +3,17 @@ ghost use Prim.Native.Nat.{_+_, _*_, _≤_};
 use super::text;
 use meaning::refusal::number;
 use sheet::within::masks_of;
+use sheet::words::wide;
 
 // The first masks into the line; the place after them.
 fn put_masks(line: &mut [u8; 4096], from: usize, masks: &[u32; 32], count: usize) -> usize
     requires { ⌜ (from + 21 * 32 ≤ 4096) × (count ≤ 32) ⌝ }
-    ensures { λ r. ⌜ r ≤ from + 21 * count ⌝ }
+    ensures { λ r. ⌜ r ≤ from + 21 * 32 ⌝ }
 {
     let mut at = from;
     let mut p = 0;
     while p < count {
-        at = text::put(line, at, masks[p] as u64);
+        at = text::put(line, at, wide(masks[p]) as u64);
         p += 1;
     }
     at
