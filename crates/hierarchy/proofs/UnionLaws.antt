@@ -1,7 +1,7 @@
 -- Unions of words over the modes within a mode and over those that contain it, made in one pass over the modes. Assumes nothing.
 use mathlib.Core.Path.{_≡_, refl, sym, ap, ap₂, _∙_, subst}
 use mathlib.Core.Logic.{_⊎_, inl, inr, ⊎-elim}
-use mathlib.Core.Bool.{Bool, true, false, _&&_, _||_, and-false}
+use mathlib.Core.Bool.{Bool, _&&_, _||_, and-false}
 use mathlib.Core.List.{List}
 use Prim.Native.Nat.{ℕ, _+_, _-_, _≤_, _<_}
 use native.Mathlib.Omega.{arith}
@@ -9,7 +9,7 @@ use lib.Arith.{lt-of-le-ne}
 use lib.Dec.{T, eqb, eqb→eq}
 use lib.ListN.{length, getD, set}
 use Rattle.sets.specs.Sets.{has, union, setOf, some}
-use Rattle.sets.proofs.Tests.{and-l, and-r, and-i, or-e, or-l, or-r, of-true, bool-ext}
+use Rattle.sets.proofs.Tests.{and-l, and-r, and-i, or-e, or-l, or-r, bool-ext}
 use Rattle.sets.proofs.Membership.{has-above, has-union, has-setOf, setOf-lt, same-members}
 use Rattle.sets.proofs.Facts.{some-e, some-i}
 use Rattle.sets.proofs.Quantifiers.{some-same, some-false, some-at}

@@ -1,20 +1,20 @@
 -- The masks of the modes strictly within each mode: their members, and the four promises. Assumes nothing.
 use mathlib.Core.Path.{_≡_, refl, sym, ap, ap₂, _∙_, subst}
 use mathlib.Core.Logic.{_⊎_, inl, inr, ⊎-elim}
-use mathlib.Core.Bool.{Bool, true, false, not, _&&_, _||_, cond}
+use mathlib.Core.Bool.{Bool, true, false, not, _&&_, _||_}
 use mathlib.Core.List.{List}
 use Prim.Native.Nat.{ℕ, _≤_, _<_}
 use native.Mathlib.Nat.{lt-of-le-of-lt}
 use native.Mathlib.Omega.{arith}
 use lib.Dec.{T, eqb, ltb, eqb→eq, T-not, not-T}
-use lib.ListN.{length, getD, replicate, List·getD-eq-default}
+use lib.ListN.{getD, replicate, List·getD-eq-default}
 use borrow.Author.Tests.{eqb-true, eq-eqb, ne-eqb, ltb-true, ltb-false}
 use Rattle.sets.specs.Sets.{has, setOf, some}
 use Rattle.sets.proofs.Tests.{is-true, is-false, of-true, and-l, and-r, and-i, bool-ext, eqb-sym}
 use Rattle.sets.proofs.Facts.{some-e, some-i}
 use Rattle.sets.proofs.Membership.{has-none, has-above, has-setOf, setOf-lt}
 use Rattle.meaning.specs.Lists.{rowFrom}
-use Rattle.meaning.specs.Sheet.{nOf, tOf, isChild, contains, strictlyContains, meeting}
+use Rattle.meaning.specs.Sheet.{nOf, isChild, contains, strictlyContains, meeting}
 use Rattle.meaning.specs.Check.{sheetRefusal}
 use Rattle.meaning.specs.Hierarchy.{childHolding}
 use Rattle.meaning.specs.GivesWay.{givesWay}

@@ -3,22 +3,19 @@ use mathlib.Core.Path.{_≡_, refl, ap, _∙_}
 use mathlib.Core.Logic.{_⊎_, inl, inr, ⊎-elim}
 use mathlib.Core.Bool.{Bool, true, false, _&&_, _||_}
 use mathlib.Core.List.{List, [], _∷_}
-use Prim.Native.Nat.{ℕ, zero, suc, _+_, _%_, _^_, _≤_, _<_}
-use native.Mathlib.Nat.{lt-of-lt-of-le, mod-eq-of-lt, pow-le-pow-right}
+use Prim.Native.Nat.{ℕ, zero, suc, _+_, _^_, _≤_, _<_}
 use native.Mathlib.Omega.{arith}
 use lib.Dec.{T, leb, leb→le}
 use lib.ListN.{length, set, replicate, getD-replicate}
 use Rattle.sets.specs.Sets.{single}
 use Rattle.sets.proofs.Tests.{and-l, and-r, or-e}
-use Rattle.sets.proofs.Membership.{setOf-lt}
 use Rattle.rows.specs.Over.{over}
 use Rattle.meaning.specs.Lists.{rowFrom}
-use Rattle.meaning.specs.Sheet.{nOf, kOf, tOf}
+use Rattle.meaning.specs.Sheet.{kOf, tOf}
 use Rattle.meaning.specs.Check.{sheetRefusal}
 use Rattle.meaning.specs.Hierarchy.{complete, exits, enters}
-use Rattle.meaning.proofs.ListLaws.{rowFrom-ext}
-use Rattle.meaning.proofs.SheetLaws.{sound, n-le, t-le}
-use Rattle.reaction.specs.Plan.{exitsPart, entersPart, conflictsPart, yieldersPart, losesPart, gainsPart, delaysPart, hitsPart, fromPart, timersWord, mixedWord, startWord, planSize, Planned, sourcesIn, conflictsOf, yieldersOf, timers, timerDelay, mixed, hitsOf}
+use Rattle.meaning.proofs.SheetLaws.{sound, t-le}
+use Rattle.reaction.specs.Plan.{exitsPart, entersPart, conflictsPart, yieldersPart, losesPart, gainsPart, delaysPart, hitsPart, fromPart, timersWord, mixedWord, startWord, planSize, Planned, conflictsOf, yieldersOf, timers, timerDelay, mixed, hitsOf}
 use Rattle.planner.specs.Parts.{WordsAt, fromOf, losesOf, gainsOf}
 use Rattle.planner.proofs.PartLaws.{part-length, part-in, part-beside, part-word}
 use Rattle.planner.proofs.HitLaws.{inputs-le}

@@ -3,9 +3,8 @@
 use mathlib.Core.Path.{_≡_, sym, ap, ap₂, _∙_}
 use mathlib.Core.Bool.{Bool, not, _&&_, _||_, and-comm}
 use mathlib.Core.List.{List}
-use Prim.Native.Nat.{ℕ, _+_, _≤_, _<_}
+use Prim.Native.Nat.{ℕ, _+_, _<_}
 use native.Mathlib.Nat.{lt-of-le-of-lt}
-use native.Mathlib.Omega.{arith}
 use lib.Dec.{eqb}
 use lib.ListN.{length, getD, set, replicate}
 use borrow.Author.Tests.{eq-eqb, ne-eqb}
@@ -13,29 +12,21 @@ use Rattle.sets.specs.Sets.{union, minus, single, setOf}
 use Rattle.sets.proofs.Tests.{eqb-sym}
 use Rattle.sets.proofs.Membership.{has-union, has-minus, has-single, has-setOf, union-lt, minus-le, setOf-lt, setOf-ext, setOf-add, setOf-skip}
 use Rattle.sets.proofs.Loops.{getD-zeros, set-word, setOf-none, setOf-width}
-use Rattle.rows.specs.Over.{over}
-use Rattle.meaning.specs.Lists.{rowFrom}
 use Rattle.meaning.specs.Sheet.{nOf, tOf, contains, strictlyContains, meeting}
 use Rattle.meaning.specs.Check.{sheetRefusal}
 use Rattle.meaning.specs.GivesWay.{givesWay}
 use Rattle.meaning.specs.Reaction.{conflict}
-use Rattle.meaning.proofs.SheetLaws.{sound, t-le}
+use Rattle.meaning.proofs.SheetLaws.{sound}
 use Rattle.meaning.proofs.Containment.{meeting-lt}
 use Rattle.sheet.proofs.Past.{mode-small}
 use Rattle.hierarchy.specs.Unions.{UnionWithin, UnionContainers}
 use Rattle.hierarchy.proofs.UnionLaws.{within-by, containers-by}
 use Rattle.reaction.specs.Plan.{conflictsOf, yieldersOf}
 use Rattle.planner.specs.Parts.{Meetings, ByMeeting}
-use Rattle.planner.proofs.PartLaws.{front-in}
 
 -- ---- the meeting mode of each transition
 
 module _ (s : List ℕ) (h : sheetRefusal s ≡ 0) where
-  -- the loop's end
-  pub meetings-done : (l r : List ℕ) (t : ℕ) → 64 ≤ length l → t ≡ tOf s → r ≡ over l 0 (rowFrom 0 t (meeting s)) → Meetings s r
-  unfolding Meetings
-  meetings-done l r t b k e u a = rw e (front-in l t (meeting s) (omega (arith, t-le s (sound s h))) u (omega arith))
-
   -- the word of a transition
   pub meetings-word : (meets : List ℕ) → Meetings s meets → (t : ℕ) → t < tOf s → getD meets t 0 ≡ meeting s t
   unfolding Meetings

@@ -1,7 +1,7 @@
 -- The modes within each mode and the modes that contain each, worked out in one pass over the modes; the meeting mode from the latter.
 -- Assumes nothing.
 use mathlib.Core.Path.{_≡_, refl, sym, ap, ap₂, _∙_, subst}
-use mathlib.Core.Logic.{_⊎_, inl, inr, ⊎-elim}
+use mathlib.Core.Logic.{_⊎_, ⊎-elim}
 use mathlib.Core.Bool.{Bool, true, false, not, _&&_, _||_, or-comm}
 use mathlib.Core.List.{List}
 use Prim.Native.Nat.{ℕ, zero, suc, _+_, _-_, _^_, _≤_, _<_}
@@ -9,7 +9,7 @@ use native.Mathlib.Nat.{le-refl, le-antisymm, lt-of-le-of-lt, lt-of-lt-of-le, po
 use native.Mathlib.Omega.{arith}
 use lib.Dec.{T, eqb, eqb→eq, not-T}
 use lib.ListN.{length, getD, set}
-use borrow.Author.Tests.{eqb-true, eqb-false, eq-eqb, ne-eqb}
+use borrow.Author.Tests.{eqb-false, eq-eqb, ne-eqb}
 use Rattle.sets.specs.Sets.{has, union, meet, single, setOf, some, highest}
 use Rattle.sets.proofs.Tests.{is-true, is-false, of-true, of-false, and-l, and-r, and-i, or-e, or-l, or-r, bool-ext, eqb-sym}
 use Rattle.sets.proofs.Membership.{has-none, has-above, has-union, has-meet, has-single, has-setOf, setOf-lt, meet-le, same-members}
@@ -20,13 +20,12 @@ use Rattle.sets.proofs.Loops.{row-turn}
 use Rattle.meaning.specs.Sheet.{nOf, parent, isChild, contains, strictlyContains, meetingFrom, meetingOf}
 use Rattle.meaning.specs.Within.{within, withinEach}
 use Rattle.meaning.proofs.ListLaws.{row-at}
-use Rattle.meaning.proofs.SheetLaws.{Rooted, parent-n}
+use Rattle.meaning.proofs.SheetLaws.{Rooted, parent-le, parent-n}
 use Rattle.meaning.proofs.Containment.{Within, here, up, within-le, within-root, within-trans, within-strict, contains-e, contains-i}
-use Rattle.meaning.proofs.Fuel.{meeting-climbs, climb-found, climb-step}
+use Rattle.meaning.proofs.Fuel.{meeting-climbs, climb-same, climb-found, climb-step}
 use Rattle.meaning.proofs.WithinLaws.{contains-strictly, strictly-by-child, has-within, within-none, below-or-not}
 use Rattle.sheet.specs.Masks.{containers, Containers, Withins}
-use Rattle.sheet.proofs.Climb.{contains-step, contains-end, meeting-start}
-use Rattle.sheet.proofs.Passes.{Handed, handedFrom, handedAll, handed-start, handed-turn, handed-whole}
+use Rattle.sheet.proofs.Passes.{Handed, handed-start, handed-turn, handed-whole}
 
 -- ---- the modes within each mode: each mode hands itself and what is within it to its parent
 
@@ -105,8 +104,15 @@ module _ (s : List ℕ) (ro : Rooted s) where
       has-above (nOf s) (setOf (nOf s) (λ p. contains s p m)) i (setOf-lt (nOf s) (λ p. contains s p m)) k
       ∙ sym (is-false (contains s i m) (λ c. omega (arith, within-le s ro (contains-e s ro i m c) l)))) (below-or-not i (nOf s))
 
+  contains-end : (a x : ℕ) → x ≤ a → x < nOf s → contains s a x ≡ eqb x a
+  contains-end a x h l =
+      ⊎-elim
+      (λ (e : x ≡ a). is-true (contains s a x) (rw (sym e) (contains-i s ro x here l)) ∙ sym (eq-eqb x a e))
+      (λ (k : x < a). is-false (contains s a x) (λ c. omega (arith, within-le s ro (contains-e s ro a x c) l)) ∙ sym (ne-eqb x a (λ e. omega arith)))
+      (eq-or-lt-of-le h)
+
   root-alone : 0 < nOf s → 1 ≡ containers s 0
-  root-alone l = same-members (λ i. has-single 0 i ∙ sym (has-containers 0 i l ∙ contains-end ro i 0 (omega arith) l ∙ eqb-sym 0 i))
+  root-alone l = same-members (λ i. has-single 0 i ∙ sym (has-containers 0 i l ∙ contains-end i 0 (omega arith) l ∙ eqb-sym 0 i))
 
   pub containers-start : (words : List ℕ) → 0 < nOf s → getD words 0 0 ≡ 1 → ContainersTo s 1 words
   containers-start words l e p k = let z : p ≡ 0 = omega arith in rw (z, e) (root-alone l)
@@ -138,6 +144,10 @@ module _ (s : List ℕ) (ro : Rooted s) where
   containers-end words m l a p k = a p (omega arith)
 
   -- ---- the meeting mode of two modes of which neither contains the other
+
+  meeting-start : (a b : ℕ) → a < nOf s → meetingOf s a b ≡ meetingFrom s (parent s a) (parent s a) b
+  unfolding meetingOf
+  meeting-start a b l = climb-same ro (meeting-climbs s b) a (parent s a) (parent s a) (parent-le s ro a l) (le-refl (parent s a)) (parent-n s ro a l)
 
   module _ (a b : ℕ) (an : a < nOf s) (bn : b < nOf s) (na : contains s a b ≡ false) (nb : contains s b a ≡ false) where
     abbrev common : ℕ
@@ -195,7 +205,7 @@ module _ (s : List ℕ) (ro : Rooted s) where
       meeting-top =
           let w = common-e h (top .member) in
           let r = within-strict (w .0) (λ e. of-false na (subst (λ (i : ℕ). T (contains s i b)) e (contains-i s ro b (w .1) bn))) in
-          meeting-start ro a b an ∙ climb (parent s a) (parent s a) (le-refl (parent s a)) (parent-n s ro a an) (r .1) (up (r .0) here)
+          meeting-start a b an ∙ climb (parent s a) (parent s a) (le-refl (parent s a)) (parent-n s ro a an) (r .1) (up (r .0) here)
 
     module _ (small : nOf s ≤ 32) where
       top : Highest 32 common (highest 32 common)

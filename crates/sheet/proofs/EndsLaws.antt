@@ -1,8 +1,8 @@
 -- The targets of each source, gathered transition by transition: where one is met again, two transitions share both ends. Assumes nothing.
 use mathlib.Core.Path.{_≡_, refl, sym, ap, ap₂, _∙_}
-use mathlib.Core.Bool.{Bool, true, false, _&&_, _||_, or-comm}
+use mathlib.Core.Bool.{Bool, _&&_, _||_, or-comm}
 use mathlib.Core.List.{List}
-use Prim.Native.Nat.{ℕ, suc, _+_, _<_}
+use Prim.Native.Nat.{ℕ, _+_, _<_}
 use native.Mathlib.Numerals.{add-one}
 use lib.Dec.{T, eqb, ltb→lt}
 use lib.ListN.{length, getD, set}

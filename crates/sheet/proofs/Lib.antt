@@ -1,6 +1,5 @@
 pub mod SheetTestLaws
 pub mod MaskLaws
-pub mod Climb
 pub mod Passes
 pub mod ContainmentLaws
 pub mod EndsLaws

@@ -1,5 +1,5 @@
 -- `native::modechart_within` meets its contract: too few words, masks put, a refused sheet. Assumes nothing.
-use mathlib.Core.Path.{_≡_, refl, _∙_}
+use mathlib.Core.Path.{refl}
 use native.Mathlib.Omega.{arith}
 use borrow.Author.Needs.{needs}
 use Rattle.meaning.specs.Refusal.{numberOf}

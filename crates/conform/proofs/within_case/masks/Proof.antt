@@ -1,6 +1,5 @@
 -- `conform::within_case::masks` meets its contract: the line has room for its word, its refusal and 32 masks. Assumes nothing.
 use mathlib.Core.Logic.{⊎-elim}
-use native.Mathlib.Omega.{arith}
 use borrow.Author.Needs.{needs}
 use Rattle.conform.proofs.within_case.masks.Statement.{statement}
 use Rattle.conform.proofs.within_case.masks.Tie as tie

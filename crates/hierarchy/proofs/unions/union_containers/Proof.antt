@@ -3,7 +3,6 @@
 use mathlib.Core.Path.{_≡_}
 use Prim.Native.Nat.{_-_, _≤_, _<_}
 use native.Mathlib.Omega.{arith}
-use borrow.Author.Needs.{needs}
 use lib.ListN.{length, length-set}
 use Rattle.meaning.specs.Sheet.{nOf}
 use Rattle.meaning.proofs.SheetLaws.{parent-n, sound, tree, n-pos}

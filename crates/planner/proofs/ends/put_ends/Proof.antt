@@ -10,8 +10,8 @@ use Rattle.meaning.specs.Hierarchy.{exits, enters}
 use Rattle.meaning.proofs.SheetLaws.{sound, t-le}
 use Rattle.sheet.proofs.Past.{head-read}
 use Rattle.reaction.specs.Plan.{exitsPart, entersPart}
-use Rattle.planner.specs.Parts.{Meetings}
 use Rattle.planner.proofs.PartLaws.{part-none, parts-turn, parts-done}
+use Rattle.planner.proofs.ConflictLaws.{meetings-word}
 use Rattle.planner.proofs.ends.put_ends.Statement.{statement}
 use Rattle.planner.proofs.ends.put_ends.Tie as tie
 
@@ -36,10 +36,9 @@ element-copy-out-p : tie.Need-element-copy-out-p Inv-loop μ-loop
 element-copy-out-p c = omega arith
 
 exited-by-requires : tie.Need-exited-by-requires Inv-loop μ-loop
-unfolding Meetings
 exited-by-requires c κs =
     let b = c .before .before .before .before .before in
-    (b .pre .0, b .pre .3, b .pre .4, omega arith, b .pre .5 (c .before .before .loop .t) (omega arith))
+    (b .pre .0, b .pre .3, b .pre .4, omega arith, meetings-word _ (b .pre .0) _ (b .pre .5) (c .before .before .loop .t) (omega arith))
 
 cast-plan : tie.Need-cast-plan Inv-loop μ-loop
 cast-plan c = search needs
@@ -54,10 +53,9 @@ element-write-plan : tie.Need-element-write-plan Inv-loop μ-loop
 element-write-plan c = omega arith
 
 entered-by-requires : tie.Need-entered-by-requires Inv-loop μ-loop
-unfolding Meetings
 entered-by-requires c κs =
     let b = c .before .before .before .before .before .before in
-    (b .pre .0, b .pre .2, b .pre .3, b .pre .4, omega arith, b .pre .5 (c .before .before .before .loop .t) (omega arith))
+    (b .pre .0, b .pre .2, b .pre .3, b .pre .4, omega arith, meetings-word _ (b .pre .0) _ (b .pre .5) (c .before .before .before .loop .t) (omega arith))
 
 cast-plan-2 : tie.Need-cast-plan-2 Inv-loop μ-loop
 cast-plan-2 c = search needs

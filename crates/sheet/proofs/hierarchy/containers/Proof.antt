@@ -5,8 +5,7 @@ use Prim.Native.Nat.{_-_, _≤_, _<_}
 use native.Mathlib.Omega.{arith}
 use borrow.Author.Needs.{needs}
 use lib.ListN.{length, length-set, replicate}
-use Rattle.sheet.proofs.SheetTestLaws.{head-of}
-use Rattle.sheet.proofs.Climb.{rooted-tree}
+use Rattle.sheet.proofs.SheetTestLaws.{head-of, rooted-tree}
 use Rattle.sheet.proofs.ContainmentLaws.{ContainersTo, containers-start, containers-turn, containers-end}
 use Rattle.sheet.proofs.hierarchy.containers.Statement.{statement}
 use Rattle.sheet.proofs.hierarchy.containers.Tie as tie

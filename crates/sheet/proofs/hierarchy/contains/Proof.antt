@@ -1,8 +1,7 @@
 -- `sheet::hierarchy::contains` meets its contract. Assumes nothing.
 use native.Mathlib.Omega.{arith}
 use mathlib.Core.Path.{_∙_}
-use Rattle.sheet.proofs.SheetTestLaws.{head-of}
-use Rattle.sheet.proofs.Climb.{rooted-tree}
+use Rattle.sheet.proofs.SheetTestLaws.{head-of, rooted-tree}
 use Rattle.sheet.proofs.ContainmentLaws.{contains-word}
 use Rattle.sheet.proofs.hierarchy.contains.Statement.{statement}
 use Rattle.sheet.proofs.hierarchy.contains.Tie as tie

@@ -1,13 +1,12 @@
 -- `sheet::hierarchy::meeting` meets its contract. Assumes nothing.
-use mathlib.Core.Path.{_≡_, ap, _∙_}
+use mathlib.Core.Path.{_≡_, _∙_}
 use Prim.Native.Nat.{_<_}
 use native.Mathlib.Omega.{arith}
 use lib.ListN.{getD}
 use borrow.Author.Needs.{needs}
 use Rattle.sets.specs.Sets.{meet, highest}
-use Rattle.meaning.specs.Sheet.{nOf, source, target, meetingOf, meeting}
-use Rattle.sheet.proofs.SheetTestLaws.{head-of}
-use Rattle.sheet.proofs.Climb.{rooted-tree}
+use Rattle.meaning.specs.Sheet.{nOf, source, target, meeting}
+use Rattle.sheet.proofs.SheetTestLaws.{head-of, rooted-tree}
 use Rattle.sheet.proofs.ContainmentLaws.{meeting-words}
 use Rattle.sheet.proofs.hierarchy.meeting.Statement.{statement}
 use Rattle.sheet.proofs.hierarchy.meeting.Tie as tie

@@ -9,8 +9,7 @@ use Rattle.meaning.specs.Sheet.{nOf}
 use Rattle.meaning.specs.Within.{within, withinEach}
 use Rattle.meaning.proofs.ListLaws.{row-done}
 use Rattle.meaning.proofs.SheetLaws.{parent-n}
-use Rattle.sheet.proofs.SheetTestLaws.{head-of}
-use Rattle.sheet.proofs.Climb.{rooted-tree}
+use Rattle.sheet.proofs.SheetTestLaws.{head-of, rooted-tree}
 use Rattle.sheet.proofs.ContainmentLaws.{WithinFrom, within-start, within-turn, within-end}
 use Rattle.sheet.proofs.within.within_each.Statement.{statement}
 use Rattle.sheet.proofs.within.within_each.Tie as tie
