@@ -33,12 +33,12 @@ returns c =
 contains-requires : tie.Need-contains-requires
 contains-requires c κs =
     let q = c .before .before .before .before .before .before .pre in
-    (q .0, q .2, omega arith, omega (arith, leb-false))
+    (q .0, q .2, omega (arith, leb-false), omega (arith, leb-false))
 
 contains-requires-2 : tie.Need-contains-requires-2
 contains-requires-2 c κs =
     let q = c .before .before .before .before .before .before .before .before .pre in
-    (q .0, q .2, omega (arith, leb-false), omega arith)
+    (q .0, q .2, omega (arith, leb-false), omega (arith, leb-false))
 
 returns-2 : tie.Need-returns-2
 unfolding endOk
