@@ -190,9 +190,9 @@ def parts():
         elif case == 17:
             at += 4 + numbers[at + 2]
         else:
-            at += {3: 3, 5: 3, 6: 2}[case]
+            at += {3: 3, 5: 3, 6: 2, 13: 1}[case]
         found[-1][0].extend(numbers[start:at])
-        if case in (1, 2, 3, 4, 17):
+        if case in (1, 2, 3, 4, 13, 17):
             found[-1][1].append(lines[answered])
             answered += 1
     assert answered == len(lines)
