@@ -19,7 +19,7 @@ use Rattle.meaning.proofs.SheetLaws.{Rooted}
 use Rattle.meaning.proofs.Containment.{within-le, contains-same, contains-e}
 use Rattle.meaning.proofs.WithinLaws.{below-or-not, contains-strictly, strictly-by-child}
 use Rattle.sheet.proofs.ContainmentLaws.{contains-parent}
-use Rattle.sheet.proofs.Passes.{Handed, handedAll, handed-start, handed-turn, handed-whole}
+use Rattle.sheet.proofs.Passes.{Added, addedAll, added-start, added-turn, added-whole}
 use Rattle.hierarchy.specs.Unions.{UnionWithin, UnionContainers}
 
 module _ (s words : List ℕ) where
@@ -30,13 +30,13 @@ module _ (s words : List ℕ) where
   abbrev joined : ℕ → ℕ → Bool
   joined p i = some (nOf s) (λ m. contains s p m && own m i)
 
-  -- the words after the modes from m on handed theirs to their parents
+  -- the words after the words of the modes from m on were added to those of their parents
   abbrev pub JoinedFrom : ℕ → List ℕ → Type 0
-  JoinedFrom m unions = Handed s own joined m unions
+  JoinedFrom m unions = Added s own joined m unions
 
-  -- the words of the modes below m have taken those of their parents
-  abbrev pub TakenTo : ℕ → List ℕ → Type 0
-  TakenTo m unions =
+  -- the words of the modes below m have those of their parents
+  abbrev pub AboveTo : ℕ → List ℕ → Type 0
+  AboveTo m unions =
       ((p i : ℕ) → p < m → has (getD unions p 0) i ≡ some (nOf s) (λ q. contains s q p && own q i))
       × ((p : ℕ) → m ≤ p → getD unions p 0 ≡ getD words p 0)
 
@@ -65,9 +65,9 @@ module _ (s words : List ℕ) where
         let r = some-e (nOf s) (λ q. contains s p q && own q i) h in
         (r .0, r .1, and-l (contains s p (r .0)) (own (r .0) i) (r .2), and-r (contains s p (r .0)) (own (r .0) i) (r .2))
 
-    joined-children : (p i : ℕ) → p < nOf s → handedAll s own joined p i ≡ joined p i
+    joined-children : (p i : ℕ) → p < nOf s → addedAll s own joined p i ≡ joined p i
     joined-children p i l =
-        bool-ext (handedAll s own joined p i) (joined p i)
+        bool-ext (addedAll s own joined p i) (joined p i)
         (λ h.
         ⊎-elim (λ a. joined-i p p i l (contains-same s p) a)
         (λ a.
@@ -86,30 +86,30 @@ module _ (s words : List ℕ) where
         (contains-cases p (q .0) (q .1) (q .2)))
 
     pub joined-start : (n : ℕ) → n ≡ nOf s → JoinedFrom n words
-    joined-start n e = handed-start s own joined words n e (λ p i. refl)
+    joined-start n e = added-start s own joined words n e (λ p i. refl)
 
     pub joined-turn : (unions : List ℕ) (m p : ℕ) → 1 < m → m ≤ nOf s → p ≡ parent s (m - 1) → p < length unions → JoinedFrom m unions
         → JoinedFrom (m - 1) (set unions p (union (getD unions p 0) (getD unions (m - 1) 0)))
     joined-turn unions m p h l e room a =
         let m′ = m - 1 in
-        let above : m ≡ m - 1 + 1 = omega arith in
-        let a′ : JoinedFrom (m - 1 + 1) unions = subst (λ (i : ℕ). JoinedFrom i unions) above a in
-        handed-turn s own joined unions m′ p (getD unions m′ 0) (omega arith) (omega arith) e room a′
-        (λ i. a′ m′ i ∙ handed-whole s own joined ro (m′ + 1) m′ i (omega arith) ∙ joined-children m′ i (omega arith))
+        let next : m ≡ m - 1 + 1 = omega arith in
+        let a′ : JoinedFrom (m - 1 + 1) unions = subst (λ (i : ℕ). JoinedFrom i unions) next a in
+        added-turn s own joined unions m′ p (getD unions m′ 0) (omega arith) (omega arith) e room a′
+        (λ i. a′ m′ i ∙ added-whole s own joined ro (m′ + 1) m′ i (omega arith) ∙ joined-children m′ i (omega arith))
 
     pub joined-end : (unions : List ℕ) (m : ℕ) → m ≤ 1 → JoinedFrom m unions → UnionWithin s words unions
     unfolding UnionWithin
-    joined-end unions m h a p i l = a p i ∙ handed-whole s own joined ro m p i (omega arith) ∙ joined-children p i l
+    joined-end unions m h a p i l = a p i ∙ added-whole s own joined ro m p i (omega arith) ∙ joined-children p i l
 
     -- ---- the modes that contain a mode: it and those that contain its parent
 
     -- bit i of the words of the modes that contain p
-    abbrev taken : ℕ → ℕ → Bool
-    taken p i = some (nOf s) (λ q. contains s q p && own q i)
+    abbrev above : ℕ → ℕ → Bool
+    above p i = some (nOf s) (λ q. contains s q p && own q i)
 
-    taken-parent : (m i : ℕ) → 0 < m → m < nOf s → (own m i || taken (parent s m) i) ≡ taken m i
-    taken-parent m i pos l =
-        bool-ext (own m i || taken (parent s m) i) (taken m i)
+    above-parent : (m i : ℕ) → 0 < m → m < nOf s → (own m i || above (parent s m) i) ≡ above m i
+    above-parent m i pos l =
+        bool-ext (own m i || above (parent s m) i) (above m i)
         (λ h.
         ⊎-elim (λ a. some-i (nOf s) (λ q. contains s q m && own q i) m l (and-i (contains s m m) (own m i) (contains-same s m) a))
         (λ a.
@@ -119,44 +119,44 @@ module _ (s words : List ℕ) where
         (and-i (contains s q m) (own q i)
         (subst (λ (b : Bool). T b) (sym (contains-parent s ro q m pos l)) (or-l (contains s q (parent s m)) (eqb q m) (and-l (contains s q (parent s m)) (own q i) (r .2))))
         (and-r (contains s q (parent s m)) (own q i) (r .2))))
-        (or-e (own m i) (taken (parent s m) i) h))
+        (or-e (own m i) (above (parent s m) i) h))
         (λ h.
         let r = some-e (nOf s) (λ q. contains s q m && own q i) h in
         let q = r .0 in
         let b = and-r (contains s q m) (own q i) (r .2) in
         ⊎-elim
-        (λ a. or-r (own m i) (taken (parent s m) i) (some-i (nOf s) (λ q. contains s q (parent s m) && own q i) q (r .1) (and-i (contains s q (parent s m)) (own q i) a b)))
-        (λ e. or-l (own m i) (taken (parent s m) i) (subst (λ (j : ℕ). T (own j i)) (eqb→eq q m e) b))
+        (λ a. or-r (own m i) (above (parent s m) i) (some-i (nOf s) (λ q. contains s q (parent s m) && own q i) q (r .1) (and-i (contains s q (parent s m)) (own q i) a b)))
+        (λ e. or-l (own m i) (above (parent s m) i) (subst (λ (j : ℕ). T (own j i)) (eqb→eq q m e) b))
         (or-e (contains s q (parent s m)) (eqb q m) (subst (λ (t : Bool). T t) (contains-parent s ro q m pos l) (and-l (contains s q m) (own q i) (r .2)))))
 
-    root-taken : (i : ℕ) → 0 < nOf s → own 0 i ≡ taken 0 i
-    root-taken i l =
-        bool-ext (own 0 i) (taken 0 i) (λ a. some-i (nOf s) (λ q. contains s q 0 && own q i) 0 l (and-i (contains s 0 0) (own 0 i) (contains-same s 0) a))
+    root-above : (i : ℕ) → 0 < nOf s → own 0 i ≡ above 0 i
+    root-above i l =
+        bool-ext (own 0 i) (above 0 i) (λ a. some-i (nOf s) (λ q. contains s q 0 && own q i) 0 l (and-i (contains s 0 0) (own 0 i) (contains-same s 0) a))
         (λ h.
         let r = some-e (nOf s) (λ q. contains s q 0 && own q i) h in
         let q = r .0 in
         let z : q ≡ 0 = omega (arith, within-le s ro (contains-e s ro q 0 (and-l (contains s q 0) (own q i) (r .2))) l) in
         subst (λ (j : ℕ). T (own j i)) z (and-r (contains s q 0) (own q i) (r .2)))
 
-    pub taken-start : 0 < nOf s → TakenTo 1 words
-    taken-start l = ((λ p i h. let z : p ≡ 0 = omega arith in rw z (root-taken i l)), λ p h. refl)
+    pub above-start : 0 < nOf s → AboveTo 1 words
+    above-start l = ((λ p i h. let z : p ≡ 0 = omega arith in rw z (root-above i l)), λ p h. refl)
 
-    pub taken-turn : (unions : List ℕ) (m p : ℕ) → 0 < m → m < nOf s → p ≡ parent s m → m < length unions → TakenTo m unions
-        → TakenTo (m + 1) (set unions m (union (getD unions m 0) (getD unions p 0)))
-    taken-turn unions m p pos l e room a = (
+    pub above-turn : (unions : List ℕ) (m p : ℕ) → 0 < m → m < nOf s → p ≡ parent s m → m < length unions → AboveTo m unions
+        → AboveTo (m + 1) (set unions m (union (getD unions m 0) (getD unions p 0)))
+    above-turn unions m p pos l e room a = (
       (λ q i h. set-word-has unions m (union (getD unions m 0) (getD unions p 0)) q i room (λ k. rw k (bit i)) (λ k. a .0 q i (lt-of-le-ne (omega arith) k))),
       λ q h. set-word unions m (union (getD unions m 0) (getD unions p 0)) q room (λ k. absurd (omega arith)) (λ k. a .1 q (omega arith)),
     )
       where
-        bit : (i : ℕ) → has (union (getD unions m 0) (getD unions p 0)) i ≡ taken m i
+        bit : (i : ℕ) → has (union (getD unions m 0) (getD unions p 0)) i ≡ above m i
         bit i =
             has-union (getD unions m 0) (getD unions p 0) i
-            ∙ ap₂ _||_ (ap (λ (w : ℕ). has w i) (a .1 m (omega arith))) (a .0 p i (rw e (ro .lower m pos l)) ∙ ap (λ (j : ℕ). taken j i) e)
-            ∙ taken-parent m i pos l
+            ∙ ap₂ _||_ (ap (λ (w : ℕ). has w i) (a .1 m (omega arith))) (a .0 p i (rw e (ro .lower m pos l)) ∙ ap (λ (j : ℕ). above j i) e)
+            ∙ above-parent m i pos l
 
-    pub taken-end : (unions : List ℕ) (m : ℕ) → nOf s ≤ m → TakenTo m unions → UnionContainers s words unions
+    pub above-end : (unions : List ℕ) (m : ℕ) → nOf s ≤ m → AboveTo m unions → UnionContainers s words unions
     unfolding UnionContainers
-    taken-end unions m h a p i l = a .0 p i (omega arith)
+    above-end unions m h a p i l = a .0 p i (omega arith)
 
 -- ---- words of numbers t below w, each in the word of its mode f t
 

@@ -6,7 +6,8 @@ ghost use Rattle.hierarchy.specs.Unions.{UnionWithin, UnionContainers};
 use sheet::words::mode_count;
 use sheet::words::parent;
 
-// Each mode's word is joined with those of the modes within it: from the highest mode down, each hands its word to its parent.
+// Each mode's word is joined with those of the modes within it: from the highest mode down, each word is added to
+// its parent's.
 pub fn union_within(sheet: &[u32], words: &mut [u64; 32])
     requires { ⌜ (sheetRefusal (now sheet) ≡ 0) × (length (now words) ≡ 32) ⌝ }
     ensures { λ _. ⌜ UnionWithin (now (sheet .entry)) (now (words .entry)) (now (words .exit)) ⌝ }
@@ -19,7 +20,8 @@ pub fn union_within(sheet: &[u32], words: &mut [u64; 32])
     }
 }
 
-// Each mode's word is joined with those of the modes that contain it: from the lowest mode up, each takes its parent's.
+// Each mode's word is joined with those of the modes that contain it: from the lowest mode up, its
+// parent's word is added to each.
 pub fn union_containers(sheet: &[u32], words: &mut [u64; 32])
     requires { ⌜ (sheetRefusal (now sheet) ≡ 0) × (length (now words) ≡ 32) ⌝ }
     ensures { λ _. ⌜ UnionContainers (now (sheet .entry)) (now (words .entry)) (now (words .exit)) ⌝ }

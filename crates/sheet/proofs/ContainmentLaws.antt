@@ -25,9 +25,9 @@ use Rattle.meaning.proofs.Containment.{Within, here, up, within-le, within-root
 use Rattle.meaning.proofs.Fuel.{meeting-climbs, climb-same, climb-found, climb-step}
 use Rattle.meaning.proofs.WithinLaws.{contains-strictly, strictly-by-child, has-within, within-none, below-or-not}
 use Rattle.sheet.specs.Masks.{containers, Containers, Withins}
-use Rattle.sheet.proofs.Passes.{Handed, handed-start, handed-turn, handed-whole}
+use Rattle.sheet.proofs.Passes.{Added, added-start, added-turn, added-whole}
 
--- ---- the modes within each mode: each mode hands itself and what is within it to its parent
+-- ---- the modes within each mode: each mode adds itself and what is within it to its parent
 
 module _ (s : List ℕ) where
   -- a mode and the modes within it
@@ -37,12 +37,12 @@ module _ (s : List ℕ) where
   abbrev none : ℕ → ℕ → Bool
   none p i = false
 
-  abbrev handsOn : ℕ → ℕ → Bool
-  handsOn c i = has (inside c) i
+  abbrev adds : ℕ → ℕ → Bool
+  adds c i = has (inside c) i
 
-  -- the words after the modes from m on handed on
+  -- the words after the modes from m on were added
   abbrev pub WithinFrom : ℕ → List ℕ → Type 0
-  WithinFrom m words = Handed s none handsOn m words
+  WithinFrom m words = Added s none adds m words
 
   -- the words of the modes below m are the modes that contain each
   abbrev pub ContainersTo : ℕ → List ℕ → Type 0
@@ -62,7 +62,7 @@ module _ (s : List ℕ) (ro : Rooted s) where
       some-false (nOf s) (λ c. isChild s p c && has (inside s c) i) (λ c k. is-false (isChild s p c && has (inside s c) i) (λ h. of-false (inside-none c i l) (and-r (isChild s p c) (has (inside s c) i) h)))
       ∙ sym (within-none s p i l)) (below-or-not i (nOf s))
 
-  -- what a mode hands on
+  -- what a mode adds
   pub has-inside : (m i : ℕ) → m < nOf s → has (union (within s m) (single m)) i ≡ has (inside s m) i
   has-inside m i k =
       has-union (within s m) (single m) i
@@ -77,10 +77,10 @@ module _ (s : List ℕ) (ro : Rooted s) where
   inside-is m k = same-members (λ i. has-inside m i k)
 
   word-whole : (words : List ℕ) (m p : ℕ) → m ≤ p + 1 → WithinFrom s m words → getD words p 0 ≡ within s p
-  word-whole words m p h a = same-members (λ i. a p i ∙ handed-whole s (none s) (handsOn s) ro m p i h ∙ within-children p i)
+  word-whole words m p h a = same-members (λ i. a p i ∙ added-whole s (none s) (adds s) ro m p i h ∙ within-children p i)
 
   pub within-start : (words : List ℕ) (n : ℕ) → n ≡ nOf s → ((p : ℕ) → getD words p 0 ≡ 0) → WithinFrom s n words
-  within-start words n e f = handed-start s (none s) (handsOn s) words n e (λ p i. ap (λ (w : ℕ). has w i) (f p) ∙ has-none i)
+  within-start words n e f = added-start s (none s) (adds s) words n e (λ p i. ap (λ (w : ℕ). has w i) (f p) ∙ has-none i)
 
   pub within-turn : (words : List ℕ) (m p b : ℕ) → 1 < m → m ≤ nOf s → p ≡ parent s (m - 1) → p < length words → b ≡ single (m - 1)
       → WithinFrom s m words → WithinFrom s (m - 1) (set words p (union (getD words p 0) (union (getD words (m - 1) 0) b)))
@@ -88,7 +88,7 @@ module _ (s : List ℕ) (ro : Rooted s) where
       let up-one : m ≡ m - 1 + 1 = omega arith in
       let a′ : WithinFrom s (m - 1 + 1) words = subst (λ (i : ℕ). WithinFrom s i words) up-one a in
       let m′ = m - 1 in
-      handed-turn s (none s) (handsOn s) words m′ p (union (getD words m′ 0) b) (omega arith) (omega arith) e room a′
+      added-turn s (none s) (adds s) words m′ p (union (getD words m′ 0) b) (omega arith) (omega arith) e room a′
       (λ i. ap₂ (λ (x y : ℕ). has (union x y) i) (word-whole words (m′ + 1) m′ (omega arith) a′) k ∙ has-inside m′ i (omega arith))
 
   pub within-end : (words : List ℕ) (m p : ℕ) → m ≤ 1 → WithinFrom s m words → getD words p 0 ≡ within s p

@@ -1,4 +1,4 @@
--- `hierarchy::unions::union_containers` meets its contract: the words of the modes below m have taken those of their parents. The measure
+-- `hierarchy::unions::union_containers` meets its contract: the words of the modes below m have those of their parents. The measure
 -- is what is left of the modes. Assumes nothing.
 use mathlib.Core.Path.{_≡_}
 use Prim.Native.Nat.{_-_, _≤_, _<_}
@@ -7,12 +7,12 @@ use lib.ListN.{length, length-set}
 use Rattle.meaning.specs.Sheet.{nOf}
 use Rattle.meaning.proofs.SheetLaws.{parent-n, sound, tree, n-pos}
 use Rattle.sheet.proofs.Past.{head-read, mode-small, row-read}
-use Rattle.hierarchy.proofs.UnionLaws.{TakenTo, taken-start, taken-turn, taken-end}
+use Rattle.hierarchy.proofs.UnionLaws.{AboveTo, above-start, above-turn, above-end}
 use Rattle.hierarchy.proofs.unions.union_containers.Statement.{statement}
 use Rattle.hierarchy.proofs.unions.union_containers.Tie as tie
 
 abbrev Inv-loop : tie.InvT-loop
-Inv-loop sheet words₀ n m₀ words m = (length words ≡ 32) × (1 ≤ m) × (n ≡ nOf sheet) × TakenTo sheet words₀ m words
+Inv-loop sheet words₀ n m₀ words m = (length words ≡ 32) × (1 ≤ m) × (n ≡ nOf sheet) × AboveTo sheet words₀ m words
 
 abbrev μ-loop : tie.MeasureT-loop
 μ-loop sheet words₀ n m₀ words m = n - m
@@ -33,7 +33,7 @@ loop-holds : tie.Need-loop-holds Inv-loop μ-loop
 loop-holds c =
     let b = c .before .before in
     let sd = sound _ (b .pre .0) in
-    (b .pre .1, omega arith, c .mode-count .ensures, taken-start (b .args .sheet .now) (b .args .words .now) (tree _ sd) (n-pos _ sd))
+    (b .pre .1, omega arith, c .mode-count .ensures, above-start (b .args .sheet .now) (b .args .words .now) (tree _ sd) (n-pos _ sd))
 
 parent-requires : tie.Need-parent-requires Inv-loop μ-loop
 parent-requires c κs = row-read _ (c .before .before .before .before .pre .0) _ (turned c)
@@ -67,13 +67,13 @@ loop-again c =
       simp length-set (l .inv .0),
       omega arith,
       l .inv .2,
-      taken-turn (b .args .sheet .now) (b .args .words .now) (tree _ (sound _ (b .pre .0))) (l .words) (l .m) _ (omega (arith, l .inv .1)) (turned (c .before .before .before)) (c .before .before .parent .ensures) (omega (arith, l .inv .0)) (l .inv .3),
+      above-turn (b .args .sheet .now) (b .args .words .now) (tree _ (sound _ (b .pre .0))) (l .words) (l .m) _ (omega (arith, l .inv .1)) (turned (c .before .before .before)) (c .before .before .parent .ensures) (omega (arith, l .inv .0)) (l .inv .3),
     )
 
 returns : tie.Need-returns Inv-loop μ-loop
 returns c =
     let l = c .before .loop in
-    taken-end _ (c .before .before .before .before .args .words .now) (tree _ (sound _ (c .before .before .before .before .pre .0))) (l .words) (l .m) (omega (arith, l .inv .2)) (l .inv .3)
+    above-end _ (c .before .before .before .before .args .words .now) (tree _ (sound _ (c .before .before .before .before .pre .0))) (l .words) (l .m) (omega (arith, l .inv .2)) (l .inv .3)
 
 pub union-containers-spec : {M : Type 1} → statement M
 union-containers-spec =

@@ -1,4 +1,4 @@
--- `hierarchy::unions::union_within` meets its contract: the modes from m on have handed their words to their parents. The measure is m.
+-- `hierarchy::unions::union_within` meets its contract: the words of the modes from m on are added to those of their parents. The measure is m.
 -- Assumes nothing.
 use mathlib.Core.Path.{_≡_}
 use Prim.Native.Nat.{_-_, _≤_, _<_}

@@ -1,4 +1,4 @@
--- `sheet::within::within_each` meets its contract: the modes from m on are handed to their parents. The measure is m. Assumes nothing.
+-- `sheet::within::within_each` meets its contract: the modes from m on are added to their parents. The measure is m. Assumes nothing.
 use mathlib.Core.Path.{_≡_, refl}
 use Prim.Native.Nat.{_-_, _≤_, _<_}
 use native.Mathlib.Omega.{arith}
