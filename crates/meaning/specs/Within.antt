@@ -41,7 +41,7 @@ MaskExact =
     (s : List ℕ) → sheetRefusal s ≡ 0 → (p m : ℕ) → p < nOf s → m < nOf s
     → has (getD (masksOf s .masks) p 0) m ≡ strictlyContains s p m
 
--- no other bit is set: "masks at n and above are 0", and no mask has a bit at n or above
+-- no other bit is set: masks at n and above are 0, and no mask has a bit at n or above
 unfoldable pub MaskNoOther : Type 0
 MaskNoOther =
     (s : List ℕ) → sheetRefusal s ≡ 0 → (p m : ℕ) → (nOf s ≤ p) ⊎ (nOf s ≤ m)
