@@ -1,5 +1,5 @@
-// Completion. The modes below a serial mode and those below a parallel one are found by two functions that call each other, through
-// `below`, which chooses; the modes numbered above the present one fall. A mode without children, as most are, is not called for.
+// Completion. The modes below a serial mode and those below a parallel one are found by two functions that call each other; the
+// modes numbered above the present one fall. A mode without children, as most are, is not called for.
 ghost use mathlib.Core.Path.{_≡_};
 ghost use Prim.Native.Nat.{_<_};
 ghost use Rattle.sets.specs.Sets.{single};
@@ -37,7 +37,11 @@ fn serial_below(sheet: &[u32], children: &[u32; 32], x: u32, m: usize) -> u32
     if children[c] == 0 {
         return r;
     }
-    r | below(sheet, children, x, c)
+    if is_serial(sheet, c) {
+        r | serial_below(sheet, children, x, c)
+    } else {
+        r | parallel_below(sheet, children, x, c)
+    }
 }
 
 // The modes that completing mode m, parallel or atomic, puts below it for the set x.
@@ -53,23 +57,15 @@ fn parallel_below(sheet: &[u32], children: &[u32; 32], x: u32, m: usize) -> u32
     while rest != 0 {
         let c = modes::lowest(rest);
         if children[c] != 0 {
-            r |= below(sheet, children, x, c);
+            if is_serial(sheet, c) {
+                r |= serial_below(sheet, children, x, c);
+            } else {
+                r |= parallel_below(sheet, children, x, c);
+            }
         }
         rest = modes::without_lowest(rest);
     }
     r
-}
-
-// The modes that completing mode m, of any kind, puts below it for the set x.
-fn below(sheet: &[u32], children: &[u32; 32], x: u32, m: usize) -> u32
-    requires { ⌜ (sheetRefusal (now sheet) ≡ 0) × (m < nOf (now sheet)) × Children (now sheet) (now children) ⌝ }
-    ensures { λ r. ⌜ r ≡ completedBelow (now (sheet .entry)) x m ⌝ }
-{
-    if is_serial(sheet, m) {
-        serial_below(sheet, children, x, m)
-    } else {
-        parallel_below(sheet, children, x, m)
-    }
 }
 
 // Mode m with the modes that completing it, for the set x, puts below it.
@@ -81,7 +77,11 @@ pub fn completed(sheet: &[u32], children: &[u32; 32], x: u32, m: usize) -> u32
     if children[m] == 0 {
         return r;
     }
-    r | below(sheet, children, x, m)
+    if is_serial(sheet, m) {
+        r | serial_below(sheet, children, x, m)
+    } else {
+        r | parallel_below(sheet, children, x, m)
+    }
 }
 
 // Power-on's modes: the root, completed.

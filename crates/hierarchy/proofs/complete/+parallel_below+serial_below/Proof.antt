@@ -1,9 +1,9 @@
--- `hierarchy::complete::below`, `hierarchy::complete::serial_below` and `hierarchy::complete::parallel_below`, which call each other, meet
--- their contracts. The measure of each is twice 32 less the mode, since a child has a higher number, and one more for `below`, which
--- calls for the same mode. The loop's invariant: r with what is below the children in rest is what is below m. Assumes nothing.
+-- `hierarchy::complete::serial_below` and `hierarchy::complete::parallel_below`, which call each other, meet their contracts. The measure
+-- of both is 32 less the mode, since a child has a higher number. The loop's invariant: r with what is below the children in rest is
+-- what is below m. Assumes nothing.
 use mathlib.Core.Path.{_≡_, refl, sym, _∙_}
 use mathlib.Core.Logic.{⊎-elim}
-use Prim.Native.Nat.{ℕ, _+_, _-_, _*_, _^_, _<_}
+use Prim.Native.Nat.{ℕ, _-_, _^_, _<_}
 use native.Mathlib.Omega.{arith}
 use borrow.Author.Needs.{needs}
 use borrow.Fn.Kinds.{In}
@@ -20,37 +20,25 @@ use Rattle.sheet.proofs.MaskLaws.{children-lt, children-word}
 use Rattle.hierarchy.specs.Below.{completedBelow}
 use Rattle.hierarchy.proofs.BelowLaws.{serial-of, other-of, children-next, kept-child-next, branch-of, serial-done, childless-union, childless-branch, completed-below-members}
 use Rattle.hierarchy.proofs.ConsistentLaws.{fits-32}
-use Rattle.hierarchy.proofs.complete.below.Reads as below
-use Rattle.hierarchy.proofs.complete.below.Kinds as below-kinds
-use Rattle.hierarchy.proofs.complete.+below+parallel_below+serial_below.Lts-below as below-lts
 use Rattle.hierarchy.proofs.complete.parallel_below.Reads as parallel-below
 use Rattle.hierarchy.proofs.complete.parallel_below.Kinds as parallel-below-kinds
-use Rattle.hierarchy.proofs.complete.+below+parallel_below+serial_below.Lts-parallel_below as parallel-below-lts
+use Rattle.hierarchy.proofs.complete.+parallel_below+serial_below.Lts-parallel_below as parallel-below-lts
 use Rattle.hierarchy.proofs.complete.serial_below.Reads as serial-below
 use Rattle.hierarchy.proofs.complete.serial_below.Kinds as serial-below-kinds
-use Rattle.hierarchy.proofs.complete.+below+parallel_below+serial_below.Lts-serial_below as serial-below-lts
+use Rattle.hierarchy.proofs.complete.+parallel_below+serial_below.Lts-serial_below as serial-below-lts
 use Rattle.hierarchy.proofs.complete.kept_child.Reads as kept-child-reads
 use Rattle.sets.proofs.modes.lowest.Reads as lowest-reads
 use Rattle.sets.proofs.modes.single.Reads as single-reads
 use Rattle.sets.proofs.modes.without_lowest.Reads as without-lowest-reads
 use Rattle.sheet.proofs.hierarchy.is_serial.Reads as is-serial-reads
-use Rattle.hierarchy.proofs.complete.+below+parallel_below+serial_below.{statement}
-use Rattle.hierarchy.proofs.complete.+below+parallel_below+serial_below.Tie.{close}
-
-abbrev μ-below : Measures 2 below-kinds.ps ℕ
-μ-below κs a = 2 * (32 - a .1 .1 .1 .0) + 1
+use Rattle.hierarchy.proofs.complete.+parallel_below+serial_below.{statement}
+use Rattle.hierarchy.proofs.complete.+parallel_below+serial_below.Tie.{close}
 
 abbrev μ-parallel-below : Measures 2 parallel-below-kinds.ps ℕ
-μ-parallel-below κs a = 2 * (32 - a .1 .1 .1 .0)
+μ-parallel-below κs a = 32 - a .1 .1 .1 .0
 
 abbrev μ-serial-below : Measures 2 serial-below-kinds.ps ℕ
-μ-serial-below κs a = 2 * (32 - a .1 .1 .1 .0)
-
-abbrev below-at : ℕ → In 2 below-kinds.ps
-below-at t = and 2 below-kinds.ps (is 2 below-kinds.ps μ-below t) below.Pre
-
-abbrev below-below : ℕ → In 2 below-kinds.ps
-below-below t = and 2 below-kinds.ps (falls 2 below-kinds.ps _<_ μ-below t) below.Pre
+μ-serial-below κs a = 32 - a .1 .1 .1 .0
 
 abbrev parallel-below-at : ℕ → In 2 parallel-below-kinds.ps
 parallel-below-at t =
@@ -68,36 +56,12 @@ abbrev serial-below-below : ℕ → In 2 serial-below-kinds.ps
 serial-below-below t =
     and 2 serial-below-kinds.ps (falls 2 serial-below-kinds.ps _<_ μ-serial-below t) serial-below.Pre
 
--- what the three know of the functions that they call
-abbrev below-calls : ℕ → below-lts.Claims
-below-calls t = (is-serial-reads.Asked, is-serial-reads.Learnt, serial-below-below t, serial-below.Post, parallel-below-below t, parallel-below.Post)
-
+-- what the two know of the functions that they call
 abbrev parallel-calls : ℕ → parallel-below-lts.Claims
-parallel-calls t = (lowest-reads.Asked, lowest-reads.Learnt, below-below t, below.Post, without-lowest-reads.Asked, without-lowest-reads.Learnt)
+parallel-calls t = (lowest-reads.Asked, lowest-reads.Learnt, is-serial-reads.Asked, is-serial-reads.Learnt, serial-below-below t, serial-below.Post, parallel-below-below t, parallel-below.Post, without-lowest-reads.Asked, without-lowest-reads.Learnt)
 
 abbrev serial-calls : ℕ → serial-below-lts.Claims
-serial-calls t = (kept-child-reads.Asked, kept-child-reads.Learnt, single-reads.Asked, single-reads.Learnt, below-below t, below.Post)
-
--- ---- below
-
-below-is-serial-requires : (t : ℕ) → below-lts.Need-is-serial-requires (below-calls t) (below-at t) below.Post
-below-is-serial-requires t c κs = let p = c .before .pre .1 in row-read _ (p .0) _ (p .1)
-
-below-serial-below-requires : (t : ℕ) → below-lts.Need-serial-below-requires (below-calls t) (below-at t) below.Post
-below-serial-below-requires t c κs =
-    let p = c .before .before .before .pre in
-    (omega (arith, p .0), (p .1 .0, p .1 .1, p .1 .2, serial-of _ _ (c .before .is-serial .ensures) (c .if1 .taken)))
-
-below-parallel-below-requires : (t : ℕ) → below-lts.Need-parallel-below-requires (below-calls t) (below-at t) below.Post
-below-parallel-below-requires t c κs =
-    let p = c .before .before .before .pre in
-    (omega (arith, p .0), (p .1 .0, p .1 .1, p .1 .2, other-of _ _ (c .before .is-serial .ensures) (c .if1 .left)))
-
-below-returns : (t : ℕ) → below-lts.Need-returns (below-calls t) (below-at t) below.Post
-below-returns t c = c .serial-below .ensures
-
-below-returns-2 : (t : ℕ) → below-lts.Need-returns-2 (below-calls t) (below-at t) below.Post
-below-returns-2 t c = c .parallel-below .ensures
+serial-calls t = (kept-child-reads.Asked, kept-child-reads.Learnt, single-reads.Asked, single-reads.Learnt, is-serial-reads.Asked, is-serial-reads.Learnt, serial-below-below t, serial-below.Post, parallel-below-below t, parallel-below.Post)
 
 -- ---- parallel_below
 
@@ -128,7 +92,7 @@ parallel-turn : (t : ℕ) (c : parallel-below-lts.After-lowest (parallel-calls t
 parallel-turn t c e = turn 32 (c .before .before .loop .rest) (c .before .before .loop .inv .0) (c .before .loop-test .taken) (c .lowest .ensures) e
 
 parallel-mode : (t : ℕ) (c : parallel-below-lts.After-lowest (parallel-calls t) (parallel-below-at t) parallel-below.Post Inv-loop μ-loop)
-    → (c .lowest .result < nOf (c .before .before .before .before .before .args .sheet .now)) × (2 * (32 - c .lowest .result) + 1 < t)
+    → (c .lowest .result < nOf (c .before .before .before .before .before .args .sheet .now)) × (32 - c .lowest .result < t)
 parallel-mode t c =
     let p = c .before .before .before .before .before .pre in
     let k = children-next _ (sound _ (p .1 .0)) _ _ (c .before .before .loop .inv .1 _ (of-true (parallel-turn t c refl .lowest .member))) in
@@ -143,11 +107,20 @@ parallel-below-mul-if1 t c = omega (arith, mode-small _ (c .before .before .befo
 parallel-below-element-copy-out-if1 : (t : ℕ) → parallel-below-lts.Need-element-copy-out-if1 (parallel-calls t) (parallel-below-at t) parallel-below.Post Inv-loop μ-loop
 parallel-below-element-copy-out-if1 t c = mode-small _ (c .before .before .before .before .before .pre .1 .0) _ (parallel-mode t c .0)
 
-parallel-below-below-requires : (t : ℕ) → parallel-below-lts.Need-below-requires (parallel-calls t) (parallel-below-at t) parallel-below.Post Inv-loop μ-loop
-parallel-below-below-requires t c κs =
-    let p = c .before .before .before .before .before .before .before .pre .1 in
-    let k = parallel-mode t (c .before .before) in
-    (k .1, (p .0, k .0, p .2))
+parallel-below-is-serial-requires : (t : ℕ) → parallel-below-lts.Need-is-serial-requires (parallel-calls t) (parallel-below-at t) parallel-below.Post Inv-loop μ-loop
+parallel-below-is-serial-requires t c κs = row-read _ (c .before .before .before .before .before .before .before .pre .1 .0) _ (parallel-mode t (c .before .before) .0)
+
+parallel-below-serial-below-requires : (t : ℕ) → parallel-below-lts.Need-serial-below-requires (parallel-calls t) (parallel-below-at t) parallel-below.Post Inv-loop μ-loop
+parallel-below-serial-below-requires t c κs =
+    let p = c .before .before .before .before .before .before .before .before .before .pre .1 in
+    let k = parallel-mode t (c .before .before .before .before) in
+    (k .1, (p .0, k .0, p .2, serial-of _ _ (c .before .is-serial .ensures) (c .if2 .taken)))
+
+parallel-below-parallel-below-requires : (t : ℕ) → parallel-below-lts.Need-parallel-below-requires (parallel-calls t) (parallel-below-at t) parallel-below.Post Inv-loop μ-loop
+parallel-below-parallel-below-requires t c κs =
+    let p = c .before .before .before .before .before .before .before .before .before .pre .1 in
+    let k = parallel-mode t (c .before .before .before .before) in
+    (k .1, (p .0, k .0, p .2, other-of _ _ (c .before .is-serial .ensures) (c .if2 .left)))
 
 parallel-below-without-lowest-requires : (t : ℕ) → parallel-below-lts.Need-without-lowest-requires (parallel-calls t) (parallel-below-at t) parallel-below.Post Inv-loop μ-loop
 parallel-below-without-lowest-requires t c κs = parallel-turn t (c .before .before) refl .filled
@@ -165,8 +138,9 @@ parallel-below-loop-again t c =
     let go = fold-turn (λ y d. union y (completedBelow (s .args .sheet .now) (s .args .x) d)) (l .r) u ∙ l .inv .2 in (
       u .fits,
       subset-turn (children (s .args .sheet .now) (s .args .m)) u (l .inv .1),
-      ⊎-elim (λ w. rw (w .2, w .1 .ensures) go)
-          (λ w. rw (w .1 ∙ sym (childless-union _ (sound _ (p .0)) (s .args .x) _ (l .r) k (sym (children-word _ _ _ (p .0) k (p .2)) ∙ w .0 .left))) go)
+      ⊎-elim (λ w. rw (w .4, w .3 .ensures) go)
+          (⊎-elim (λ w. rw (w .4, w .3 .ensures) go)
+          (λ w. rw (w .1 ∙ sym (childless-union _ (sound _ (p .0)) (s .args .x) _ (l .r) k (sym (children-word _ _ _ (p .0) k (p .2)) ∙ w .0 .left))) go))
           (c .before .if1 .came),
     )
 
@@ -180,7 +154,7 @@ parallel-below-returns t c =
 
 -- the mode that it goes on from
 serial-mode : (t : ℕ) (c : serial-below-lts.After-kept-child (serial-calls t) (serial-below-at t) serial-below.Post)
-    → (c .kept-child .result < nOf (c .before .before .args .sheet .now)) × (2 * (32 - c .kept-child .result) + 1 < t)
+    → (c .kept-child .result < nOf (c .before .before .args .sheet .now)) × (32 - c .kept-child .result < t)
 serial-mode t c =
     let p = c .before .before .pre in
     let k = kept-child-next _ (sound _ (p .1 .0)) _ _ _ (p .1 .1) (p .1 .3) (c .kept-child .ensures) in
@@ -205,30 +179,44 @@ serial-below-returns t c =
     serial-done _ (sound _ (p .0)) _ _ _ _ (p .1) (p .3) (c .before .before .before .kept-child .ensures)
     (childless-branch _ (sound _ (p .0)) _ _ _ k (sym (children-word _ _ _ (p .0) k (p .2)) ∙ c .if1 .taken) (c .before .before .single .ensures))
 
-serial-below-below-requires : (t : ℕ) → serial-below-lts.Need-below-requires (serial-calls t) (serial-below-at t) serial-below.Post
-serial-below-below-requires t c κs =
-    let p = c .before .before .before .before .before .pre .1 in
-    let k = serial-mode t (c .before .before .before) in
-    (k .1, (p .0, k .0, p .2))
+serial-below-is-serial-requires : (t : ℕ) → serial-below-lts.Need-is-serial-requires (serial-calls t) (serial-below-at t) serial-below.Post
+serial-below-is-serial-requires t c κs = row-read _ (c .before .before .before .before .before .pre .1 .0) _ (serial-mode t (c .before .before .before) .0)
+
+serial-below-serial-below-requires : (t : ℕ) → serial-below-lts.Need-serial-below-requires (serial-calls t) (serial-below-at t) serial-below.Post
+serial-below-serial-below-requires t c κs =
+    let p = c .before .before .before .before .before .before .before .pre .1 in
+    let k = serial-mode t (c .before .before .before .before .before) in
+    (k .1, (p .0, k .0, p .2, serial-of _ _ (c .before .is-serial .ensures) (c .if2 .taken)))
+
+serial-below-parallel-below-requires : (t : ℕ) → serial-below-lts.Need-parallel-below-requires (serial-calls t) (serial-below-at t) serial-below.Post
+serial-below-parallel-below-requires t c κs =
+    let p = c .before .before .before .before .before .before .before .pre .1 in
+    let k = serial-mode t (c .before .before .before .before .before) in
+    (k .1, (p .0, k .0, p .2, other-of _ _ (c .before .is-serial .ensures) (c .if2 .left)))
 
 serial-below-returns-2 : (t : ℕ) → serial-below-lts.Need-returns-2 (serial-calls t) (serial-below-at t) serial-below.Post
 serial-below-returns-2 t c =
-    let p = c .before .before .before .before .before .before .pre .1 in
-    serial-done _ (sound _ (p .0)) _ _ _ _ (p .1) (p .3) (c .before .before .before .before .kept-child .ensures)
-    (branch-of _ (sound _ (p .0)) _ _ _ _ (c .before .before .before .single .ensures) (c .below .ensures))
+    let p = c .before .before .before .before .before .before .before .before .pre .1 in
+    serial-done _ (sound _ (p .0)) _ _ _ _ (p .1) (p .3) (c .before .before .before .before .before .before .kept-child .ensures)
+    (branch-of _ (sound _ (p .0)) _ _ _ _ (c .before .before .before .before .before .single .ensures) (c .serial-below .ensures))
 
-pub +below+parallel-below+serial-below-spec : {M : Type 1} → statement M
-+below+parallel-below+serial-below-spec =
-    close μ-below μ-parallel-below μ-serial-below
-    (λ t. below-lts.spec (below-calls t) (below-at t) below.Post
-    (below-is-serial-requires t) (below-serial-below-requires t) (below-parallel-below-requires t) (below-returns t)
-    (below-returns-2 t))
+serial-below-returns-3 : (t : ℕ) → serial-below-lts.Need-returns-3 (serial-calls t) (serial-below-at t) serial-below.Post
+serial-below-returns-3 t c =
+    let p = c .before .before .before .before .before .before .before .before .pre .1 in
+    serial-done _ (sound _ (p .0)) _ _ _ _ (p .1) (p .3) (c .before .before .before .before .before .before .kept-child .ensures)
+    (branch-of _ (sound _ (p .0)) _ _ _ _ (c .before .before .before .before .before .single .ensures) (c .parallel-below .ensures))
+
+pub +parallel-below+serial-below-spec : {M : Type 1} → statement M
++parallel-below+serial-below-spec =
+    close μ-parallel-below μ-serial-below
     (λ t. parallel-below-lts.spec (parallel-calls t) (parallel-below-at t) parallel-below.Post Inv-loop μ-loop
     (parallel-below-mul-r t) (parallel-below-element-copy-out-r t) (parallel-below-loop-holds t)
     (parallel-below-lowest-requires t) (parallel-below-mul-if1 t) (parallel-below-element-copy-out-if1 t)
-    (parallel-below-below-requires t) (parallel-below-without-lowest-requires t)
+    (parallel-below-is-serial-requires t) (parallel-below-serial-below-requires t)
+    (parallel-below-parallel-below-requires t) (parallel-below-without-lowest-requires t)
     (parallel-below-loop-less t) (parallel-below-loop-again t) (parallel-below-returns t))
     λ t. serial-below-lts.spec (serial-calls t) (serial-below-at t) serial-below.Post
     (serial-below-kept-child-requires t) (serial-below-single-requires t) (serial-below-mul-if1 t)
-    (serial-below-element-copy-out-if1 t) (serial-below-returns t) (serial-below-below-requires t)
-    (serial-below-returns-2 t)
+    (serial-below-element-copy-out-if1 t) (serial-below-returns t) (serial-below-is-serial-requires t)
+    (serial-below-serial-below-requires t) (serial-below-parallel-below-requires t) (serial-below-returns-2 t)
+    (serial-below-returns-3 t)
