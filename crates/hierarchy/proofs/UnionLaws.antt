@@ -9,7 +9,7 @@ use lib.Arith.{lt-of-le-ne}
 use lib.Dec.{T, eqb, eqb→eq}
 use lib.ListN.{length, getD, set}
 use Rattle.sets.specs.Sets.{has, union, setOf, some}
-use Rattle.sets.proofs.Tests.{and-l, and-r, and-i, or-e, or-l, or-r, bool-ext}
+use Rattle.sets.proofs.Tests.{and-l, and-r, and-i, or-e, or-l, or-r, bool-ext, below-or-not}
 use Rattle.sets.proofs.Membership.{has-above, has-union, has-setOf, setOf-lt, same-members}
 use Rattle.sets.proofs.Facts.{some-e, some-i}
 use Rattle.sets.proofs.Quantifiers.{some-same, some-false, some-at}
@@ -17,7 +17,7 @@ use Rattle.sets.proofs.Loops.{set-word, set-word-has}
 use Rattle.meaning.specs.Sheet.{nOf, parent, isChild, contains, strictlyContains}
 use Rattle.meaning.proofs.SheetLaws.{Rooted}
 use Rattle.meaning.proofs.Containment.{within-le, contains-same, contains-e}
-use Rattle.meaning.proofs.WithinLaws.{below-or-not, contains-strictly, strictly-by-child}
+use Rattle.meaning.proofs.WithinLaws.{contains-strictly, strictly-by-child}
 use Rattle.sheet.proofs.ContainmentLaws.{contains-parent}
 use Rattle.sheet.proofs.Passes.{Added, addedAll, added-start, added-turn, added-whole}
 use Rattle.hierarchy.specs.Unions.{UnionWithin, UnionContainers}

@@ -6,11 +6,11 @@ use mathlib.Core.List.{List}
 use Prim.Native.Nat.{ℕ, _≤_, _<_}
 use native.Mathlib.Nat.{lt-of-le-of-lt}
 use native.Mathlib.Omega.{arith}
-use lib.Dec.{T, eqb, ltb, eqb→eq, T-not, not-T}
+use lib.Dec.{T, eqb, eqb→eq, T-not, not-T}
 use lib.ListN.{getD, replicate, List·getD-eq-default}
-use borrow.Author.Tests.{eqb-true, eq-eqb, ne-eqb, ltb-true, ltb-false}
+use borrow.Author.Tests.{eqb-true, eq-eqb, ne-eqb}
 use Rattle.sets.specs.Sets.{has, setOf, some}
-use Rattle.sets.proofs.Tests.{is-true, is-false, of-true, and-l, and-r, and-i, bool-ext, eqb-sym}
+use Rattle.sets.proofs.Tests.{is-true, is-false, of-true, and-l, and-r, and-i, bool-ext, eqb-sym, below-or-not}
 use Rattle.sets.proofs.Facts.{some-e, some-i}
 use Rattle.sets.proofs.Membership.{has-none, has-above, has-setOf, setOf-lt}
 use Rattle.meaning.specs.Lists.{rowFrom}
@@ -23,13 +23,6 @@ use Rattle.meaning.specs.Within.{within, withinEach, masksOf, MaskExact,
 use Rattle.meaning.proofs.ListLaws.{row-at, rowFrom-length}
 use Rattle.meaning.proofs.SheetLaws.{Rooted, sound, tree, n-le}
 use Rattle.meaning.proofs.Containment.{Within, here, up, isChild-e, isChild-i, within-le, within-trans, contains-same, contains-e, contains-i, strictly-lt, child-holding, meeting-lt}
-
-pub below-or-not : (m n : ℕ) → (m < n) ⊎ (n ≤ m)
-below-or-not m n = go (ltb m n) refl
-  where
-    go : (b : Bool) → ltb m n ≡ b → (m < n) ⊎ (n ≤ m)
-    go true e = inl (ltb-true m n e)
-    go false e = inr (ltb-false m n e)
 
 -- ---- containment, with the mode itself and without
 

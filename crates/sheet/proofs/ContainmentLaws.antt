@@ -11,7 +11,7 @@ use lib.Dec.{T, eqb, eqb→eq, not-T}
 use lib.ListN.{length, getD, set}
 use borrow.Author.Tests.{eqb-false, eq-eqb, ne-eqb}
 use Rattle.sets.specs.Sets.{has, union, meet, single, setOf, some, highest}
-use Rattle.sets.proofs.Tests.{is-true, is-false, of-true, of-false, and-l, and-r, and-i, or-e, or-l, or-r, bool-ext, eqb-sym}
+use Rattle.sets.proofs.Tests.{is-true, is-false, of-true, of-false, and-l, and-r, and-i, or-e, or-l, or-r, bool-ext, eqb-sym, below-or-not}
 use Rattle.sets.proofs.Membership.{has-none, has-above, has-union, has-meet, has-single, has-setOf, setOf-lt, meet-le, same-members}
 use Rattle.sets.proofs.Facts.{has-lt}
 use Rattle.sets.proofs.Quantifiers.{some-same, some-false}
@@ -23,7 +23,7 @@ use Rattle.meaning.proofs.ListLaws.{row-at}
 use Rattle.meaning.proofs.SheetLaws.{Rooted, parent-le, parent-n}
 use Rattle.meaning.proofs.Containment.{Within, here, up, within-le, within-root, within-trans, within-strict, contains-e, contains-i}
 use Rattle.meaning.proofs.Fuel.{meeting-climbs, climb-same, climb-found, climb-step}
-use Rattle.meaning.proofs.WithinLaws.{contains-strictly, strictly-by-child, has-within, within-none, below-or-not}
+use Rattle.meaning.proofs.WithinLaws.{contains-strictly, strictly-by-child, has-within, within-none}
 use Rattle.sheet.specs.Masks.{containers, Containers, Withins}
 use Rattle.sheet.proofs.Passes.{Added, added-start, added-turn, added-whole}
 
