@@ -639,6 +639,27 @@ CONVERSIONS = [
 ]
 
 
+# ---------------------------------------------------------------- masks of the modes within each mode
+
+def chain(count):
+    """Each mode but the first within the one before."""
+    return [serial(max(m - 1, 0), m + 1) for m in range(count - 1)] + [atomic(max(count - 2, 0))]
+
+
+# a name, a sheet past 1 to 6
+MASKS = [
+    ("one mode", sheet(0, [atomic()])),
+    ("32 modes in one chain", sheet(0, chain(32))),
+    ("31 modes in one chain", sheet(0, chain(31))),
+    ("32 modes, 31 within the root", sheet(0, flat(31))),
+    ("the highest mode within the second", sheet(0, [serial(0, 1), serial(0, 31)] + [atomic()] * 29 + [atomic(1)])),
+    ("modes of two parents by turns", sheet(0, [parallel(), serial(0, 3), serial(0, 4)] + [atomic(1), atomic(2)] * 3)),
+    ("serial in parallel in serial", sheet(0, BOTH)),
+    ("two nests beside each other", sheet(0, NEST)),
+    ("transitions change no mask", sheet(1, NEST, arrow(2, 3, on(0)), arrow(3, 5, on(0)))),
+]
+
+
 # ---------------------------------------------------------------- the stream
 
 def state_numbers(state):
@@ -648,6 +669,10 @@ def state_numbers(state):
 
 def check_case(name, refusal, words):
     return name, "check", refusal, [1, len(words), *words]
+
+
+def masks_case(name, refusal):
+    return name, "within", refusal, [13]
 
 
 def run_case(case, name, refusal, state, inputs, outputs):
@@ -704,8 +729,12 @@ def compile_cases(compiles):
 
 def stream():
     """Name, answer's word, refusal and numbers of each case."""
-    for case in SHEETS:
-        yield check_case(*case)
+    for name, refusal, words in SHEETS:
+        yield check_case(name, refusal, words)
+        yield masks_case(name, refusal)
+    for name, words in MASKS:
+        yield check_case(name, 0, words)
+        yield masks_case(name, 0)
     yield from broken_cases()
     yield from state_cases()
     yield from tick_cases()

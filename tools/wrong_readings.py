@@ -42,7 +42,7 @@ FUNCTIONS = """
     sheet_tick run_sheet cell_tick cell_numbers compile_sheet table_words table_layout_ok block_at timers_of delay_of
     cell_at table_tick run_table""".split()
 ELSEWHERE = {"ages", "aged", "somewhere"}           # names of requests that have not landed
-ADDED = ["milliseconds"]
+ADDED = ["within_masks", "milliseconds"]
 CALLED = {"modechart.py": ["State", "check", "compile_sheet", "run_sheet", "run_table"], "asks.py": ADDED}
 LARGE = 1.0                 # seconds from which a part of the cases is left out for forced readings
 
@@ -190,9 +190,9 @@ def parts():
         elif case == 17:
             at += 4 + numbers[at + 2]
         else:
-            at += {3: 3, 5: 3, 6: 2}[case]
+            at += {3: 3, 5: 3, 6: 2, 13: 1}[case]
         found[-1][0].extend(numbers[start:at])
-        if case in (1, 2, 3, 4, 17):
+        if case in (1, 2, 3, 4, 13, 17):
             found[-1][1].append(lines[answered])
             answered += 1
     assert answered == len(lines)

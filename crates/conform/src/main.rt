@@ -8,6 +8,7 @@ mod compile_case;
 mod milliseconds_case;
 mod table_case;
 mod text;
+mod within_case;
 
 use text::Input;
 
@@ -65,6 +66,10 @@ fn answer(buf: &mut [u8; 65536], sheet: &mut [u32], table: &mut [u32], from: Lef
         3 => {
             let built = compile_case::compile(buf, input, &sheet[..words], table);
             next(built.input, words, built.lent, built.length)
+        }
+        13 => {
+            within_case::masks(&sheet[..words]);
+            next(input, words, lent, length)
         }
         _ => answer_table(
             buf,

@@ -2,25 +2,31 @@
 -- completion. Assumes nothing.
 use mathlib.Core.Path.{_≡_, refl, sym, ap, _∙_, subst}
 use mathlib.Core.Logic.{_⊎_, inl, inr, ⊎-elim}
-use mathlib.Core.Bool.{Bool, true, false, not, _&&_, cond}
+use mathlib.Core.Bool.{Bool, true, false, not, _&&_, _||_, cond, and-comm}
 use mathlib.Core.List.{List}
-use Prim.Native.Nat.{ℕ, zero, suc, _+_, _≤_, _<_}
+use Prim.Native.Nat.{ℕ, zero, suc, _+_, _^_, _≤_, _<_}
+use native.Mathlib.Nat.{lt-of-le-of-lt}
 use native.Mathlib.Omega.{arith}
+use lib.Bits.{or-zero-r}
 use lib.Dec.{T, eqb, ltb, eqb→eq, leb→le, T-not, not-T}
 use borrow.Author.Tests.{eqb-true, eqb-false, eq-eqb, ne-eqb}
-use Rattle.sets.specs.Sets.{has, union, single, some}
-use Rattle.sets.proofs.Tests.{is-false, of-true, and-l, and-r, and-i, or-e, or-l, or-r, bool-ext}
-use Rattle.sets.proofs.Membership.{same-members}
-use Rattle.sets.proofs.Facts.{union-e, union-l, union-r, single-e, single-i, some-e, some-i}
+use Rattle.sets.specs.Sets.{has, union, meet, single, members, highest, some, someIn}
+use Rattle.sets.proofs.Tests.{is-false, of-true, of-false, and-l, and-r, and-i, or-e, or-l, or-r, bool-ext}
+use Rattle.sets.proofs.Membership.{same-members, has-none, has-meet, has-setOf, meet-le}
+use Rattle.sets.proofs.Facts.{union-e, union-l, union-r, single-e, single-i, some-e, some-i, someIn-e, someIn-i}
+use Rattle.sets.proofs.Members.{fold}
+use Rattle.sets.proofs.Quantifiers.{has-union-over}
+use Rattle.sets.proofs.Highest.{last-cases, last-none, last-is, highest-member}
 use Rattle.meaning.specs.Sheet.{nOf, kind, parent, first, isChild}
 use Rattle.meaning.specs.Check.{modeOk}
-use Rattle.meaning.specs.Hierarchy.{brings, complete}
+use Rattle.meaning.specs.Hierarchy.{children, brings, complete}
 use Rattle.meaning.proofs.ListLaws.{allOf-e}
-use Rattle.meaning.proofs.SheetLaws.{parent-n, Sound, n-pos, tree, first-child}
+use Rattle.meaning.proofs.SheetLaws.{parent-n, Sound, n-pos, n-le, tree, first-child}
 use Rattle.meaning.proofs.Containment.{Within, here, up, isChild-e, isChild-i}
 use Rattle.meaning.proofs.Completion.{Comp, base, down, complete-e, complete-i, Based}
-use Rattle.hierarchy.specs.Below.{last, gather, keptChild, completedBelowAt, completedBelow, branch}
-use Rattle.hierarchy.proofs.Gather.{last-cases, last-hit, last-miss, last-none, gather-e, gather-i, gather-same, gather-hit, gather-miss, gather-none}
+use Rattle.sheet.proofs.MaskLaws.{children-e, children-i}
+use Rattle.hierarchy.specs.Below.{gather, keptChild, completedBelowAt, completedBelow, branch}
+use Rattle.hierarchy.proofs.Gather.{gather-e, gather-i, gather-same}
 
 -- a mode's kind by the code's test
 pub serial-of : (k : ℕ) (t : Bool) → t ≡ eqb k 1 → t ≡ true → k ≡ 1
@@ -29,10 +35,6 @@ serial-of k t e h = eqb-true k 1 (sym e ∙ h)
 pub other-of : (k : ℕ) (t : Bool) → t ≡ eqb k 1 → t ≡ false → k ≡ 1 → ⊥
 other-of k t e h = eqb-false k 1 (sym e ∙ h)
 
--- the child that serial mode m takes, as far as the modes below c tell
-abbrev pub keptChildSoFar : List ℕ → ℕ → ℕ → ℕ → ℕ
-keptChildSoFar s x m c = last (λ i. isChild s m i && has x i) (first s m) c
-
 -- ---- children
 
 module _ (s : List ℕ) (sd : Sound s) where
@@ -40,8 +42,9 @@ module _ (s : List ℕ) (sd : Sound s) where
   pub child-above : (p c : ℕ) → c < nOf s → T (isChild s p c) → p < c
   child-above p c l h = let r = isChild-e s p c h in omega (arith, r .1, tree s sd .lower c (r .0) l)
 
-  pub no-low-child : (m i : ℕ) → m < nOf s → i < m + 1 → isChild s m i ≡ false
-  no-low-child m i l h = is-false (isChild s m i) (λ c. omega (arith, child-above m i (omega arith) c))
+  -- where the code goes from mode m
+  pub children-next : (m c : ℕ) → T (has (children s m) c) → (m < c) × (c < nOf s)
+  children-next m c h = let r = children-e s m c h in (child-above m c (r .0) (r .1), r .0)
 
   -- a mode with a child is serial or parallel
   kind-of-parent : (p c : ℕ) → c < nOf s → T (isChild s p c) → (kind s p ≡ 1) ⊎ (kind s p ≡ 2)
@@ -97,20 +100,28 @@ module _ (s : List ℕ) (sd : Sound s) where
     pub kept-child-next : (m c : ℕ) → m < nOf s → kind s m ≡ 1 → c ≡ keptChild s x m → (m < c) × (c < nOf s)
     kept-child-next m c l k e = let t = kept-child-step m l k in omega (arith, child-above m (keptChild s x m) (t .small) (t .child), t .small)
 
-    -- the loop that looks for it: its start, its turn at c and its end
-    pub kept-child-start : (m r : ℕ) → m < nOf s → r ≡ first s m → r ≡ keptChildSoFar s x m (m + 1)
-    kept-child-start m r l e =
-        e ∙ sym (last-none (λ i. isChild s m i && has x i) (first s m) (m + 1) (λ i h. ap (λ (b : Bool). b && has x i) (no-low-child m i l h)))
+    -- w the set of m's children: where none of them is in x, m takes its first mode, and else the highest of them
+    module _ (m w : ℕ) (e : w ≡ children s m) where
+      among-children : (i : ℕ) → i < nOf s → has (meet x w) i ≡ (isChild s m i && has x i)
+      unfolding children
+      among-children i l =
+          has-meet x w i
+          ∙ ap (λ (b : Bool). has x i && b) (ap (λ (y : ℕ). has y i) e ∙ has-setOf (nOf s) (isChild s m) i l)
+          ∙ and-comm (has x i) (isChild s m i)
 
-    pub kept-child-hit : (m c : ℕ) (b : Bool) → b ≡ (isChild s m c && has x c) → b ≡ true → c ≡ keptChildSoFar s x m (c + 1)
-    kept-child-hit m c b e h = sym (last-hit (λ i. isChild s m i && has x i) (first s m) c (sym e ∙ h))
+      pub kept-child-first : meet x w ≡ 0 → first s m ≡ keptChild s x m
+      unfolding keptChild
+      kept-child-first z =
+          sym (last-none (λ c. isChild s m c && has x c) (first s m) (nOf s) (λ i l. sym (among-children i l) ∙ ap (λ (y : ℕ). has y i) z ∙ has-none i))
 
-    pub kept-child-miss : (m c r : ℕ) (b : Bool) → b ≡ (isChild s m c && has x c) → b ≡ false → r ≡ keptChildSoFar s x m c → r ≡ keptChildSoFar s x m (c + 1)
-    kept-child-miss m c r b e h i = i ∙ sym (last-miss (λ j. isChild s m j && has x j) (first s m) c (sym e ∙ h))
-
-    pub kept-child-end : (m c r : ℕ) → c ≡ nOf s → r ≡ keptChildSoFar s x m c → r ≡ keptChild s x m
-    unfolding keptChild
-    kept-child-end m c r e i = i ∙ ap (keptChildSoFar s x m) e
+      pub kept-child-highest : x < 2 ^ 32 → 0 < meet x w → highest 32 (meet x w) ≡ keptChild s x m
+      unfolding keptChild
+      kept-child-highest l k =
+          let t = highest 32 (meet x w) in
+          let h = highest-member 32 (meet x w) (lt-of-le-of-lt (meet-le x w) l) k in
+          let n = children-e s m t (subst (λ (y : ℕ). T (has y t)) e (and-r (has x t) (has w t) (subst T (has-meet x w t) (h .member)))) .0 in
+          sym (last-is (λ c. isChild s m c && has x c) (first s m) (nOf s) t n (subst T (among-children t n) (h .member))
+          (λ i a b p. absurd (omega (arith, h .most i (subst T (sym (among-children i b)) p)))))
 
     -- ---- the depth never matters
 
@@ -147,22 +158,9 @@ module _ (s : List ℕ) (sd : Sound s) where
     unfolding branch
     branch-of c b d p q = rw (p, q)
 
-    pub serial-done : (m c b d : ℕ) → m < nOf s → kind s m ≡ 1 → c ≡ keptChild s x m → b ≡ single c → d ≡ completedBelow s x c → union b d ≡ completedBelow s x m
-    serial-done m c b d l k e p q = branch-of c b d p q ∙ ap (branch s x) e ∙ sym (completed-below-serial m l k)
-
-    -- the turn of the parallel mode's loop at c
-    pub turn-child : (m c r b d : ℕ) (t : Bool) → t ≡ isChild s m c → t ≡ true → r ≡ gather (isChild s m) (branch s x) c → b ≡ single c → d ≡ completedBelow s x c
-        → union r (union b d) ≡ gather (isChild s m) (branch s x) (c + 1)
-    turn-child m c r b d t e h i p q = rw (i, branch-of c b d p q) (sym (gather-hit (isChild s m) (branch s x) c (sym e ∙ h)))
-
-    pub turn-start : (m : ℕ) → m < nOf s → 0 ≡ gather (isChild s m) (branch s x) (m + 1)
-    turn-start m l = sym (gather-none (isChild s m) (branch s x) (m + 1) (λ i h. no-low-child m i l h))
-
-    pub turn-other : (m c r : ℕ) (t : Bool) → t ≡ isChild s m c → t ≡ false → r ≡ gather (isChild s m) (branch s x) c → r ≡ gather (isChild s m) (branch s x) (c + 1)
-    turn-other m c r t e h i = i ∙ sym (gather-miss (isChild s m) (branch s x) c (sym e ∙ h))
-
-    pub turn-end : (m c r : ℕ) → m < nOf s → (kind s m ≡ 1 → ⊥) → c ≡ nOf s → r ≡ gather (isChild s m) (branch s x) c → r ≡ completedBelow s x m
-    turn-end m c r l k e i = i ∙ ap (gather (isChild s m) (branch s x)) e ∙ sym (completed-below-other m l k)
+    -- what is below a serial mode, from the child that it takes
+    pub serial-done : (m c r : ℕ) → m < nOf s → kind s m ≡ 1 → c ≡ keptChild s x m → r ≡ branch s x c → r ≡ completedBelow s x m
+    serial-done m c r l k e p = p ∙ ap (branch s x) e ∙ sym (completed-below-serial m l k)
 
     -- ---- which modes are in a branch
 
@@ -201,6 +199,50 @@ module _ (s : List ℕ) (sd : Sound s) where
         go false e =
             subst (λ (z : ℕ). T (has z y)) (sym (completed-below-other m l (eqb-false (kind s m) 1 e)))
             (gather-i (isChild s m) (branch s x) (nOf s) y c (t .small) (t .child) h)
+
+    -- a mode without children has nothing below it
+    completed-below-childless : (m : ℕ) → m < nOf s → children s m ≡ 0 → completedBelow s x m ≡ 0
+    completed-below-childless m l e =
+        same-members (λ y. is-false (has (completedBelow s x m) y) (λ h. none y (completed-below-e m y l h)) ∙ sym (has-none y))
+      where
+        none : (y : ℕ) → (c : ℕ) × ChildStep m c × T (has (branch s x c) y) → ⊥
+        none y r =
+            of-false (ap (λ (z : ℕ). has z (r .0)) e ∙ has-none (r .0)) (children-i s m (r .0) (r .1 .small) (r .1 .child))
+
+    -- so that nothing is added for it
+    pub childless-union : (c r : ℕ) → c < nOf s → children s c ≡ 0 → union r (completedBelow s x c) ≡ r
+    childless-union c r l e = ap (union r) (completed-below-childless c l e) ∙ or-zero-r r
+
+    pub childless-branch : (c b : ℕ) → c < nOf s → children s c ≡ 0 → b ≡ single c → b ≡ branch s x c
+    unfolding branch
+    childless-branch c b l e p = p ∙ sym (childless-union c (single c) l e)
+
+    -- below a parallel mode are its children, with what is below each of them
+    pub completed-below-members : (m : ℕ) → m < nOf s → (kind s m ≡ 1 → ⊥)
+        → fold (λ r c. union r (completedBelow s x c)) (children s m) (members 32 (children s m)) ≡ completedBelow s x m
+    completed-below-members m l k =
+        same-members (λ y.
+        has-union-over (completedBelow s x) y 32 (children s m) (children s m)
+        ∙ bool-ext (has (children s m) y || someIn 32 (children s m) (λ c. has (completedBelow s x c) y)) (has (completedBelow s x m) y)
+        (λ h. ⊎-elim (λ a. let r = children-e s m y a in step y y (r .0) (r .1) (branch-top y))
+        (λ a.
+        let r = someIn-e 32 (children s m) (λ c. has (completedBelow s x c) y) a in
+        let g = children-e s m (r .0) (r .2) in
+        step (r .0) y (g .0) (g .1) (branch-below (r .0) y (r .3)))
+        (or-e (has (children s m) y) (someIn 32 (children s m) (λ c. has (completedBelow s x c) y)) h))
+        (λ h. let r = completed-below-e m y l h in found y (r .0) (r .1) (branch-e (r .0) y (r .2))))
+      where
+        step : (c y : ℕ) → c < nOf s → T (isChild s m c) → T (has (branch s x c) y) → T (has (completedBelow s x m) y)
+        step c y n h b = completed-below-i m c y l (record { small = n; child = h; only = λ q. absurd (k q) }) b
+
+        found : (y c : ℕ) → ChildStep m c → (y ≡ c) ⊎ T (has (completedBelow s x c) y)
+            → T (has (children s m) y || someIn 32 (children s m) (λ d. has (completedBelow s x d) y))
+        found y c t (inl e) =
+            or-l (has (children s m) y) (someIn 32 (children s m) (λ d. has (completedBelow s x d) y))
+            (subst (λ (i : ℕ). T (has (children s m) i)) (sym e) (children-i s m c (t .small) (t .child)))
+        found y c t (inr a) =
+            or-r (has (children s m) y) (someIn 32 (children s m) (λ d. has (completedBelow s x d) y))
+            (someIn-i 32 (children s m) (λ d. has (completedBelow s x d) y) c (omega (arith, t .small, n-le s sd)) (children-i s m c (t .small) (t .child)) a)
 
     -- with a mode of the branch, the children that it takes
     branch-step : (k m p c : ℕ) → m < nOf s → nOf s ≤ k + m → T (has (branch s x m) p) → ChildStep p c → T (has (branch s x m) c)

@@ -8,21 +8,18 @@ use native.Mathlib.Omega.{arith}
 use lib.Dec.{eqb, ltb}
 use borrow.Author.Tests.{ltb-true, ne-eqb}
 use Rattle.sets.specs.Sets.{has, meet, below, those, size, everyIn}
-use Rattle.sets.proofs.Membership.{setOf-lt, those-lt}
+use Rattle.sets.proofs.Membership.{those-lt}
 use Rattle.sets.proofs.Widths.{meet-setOf, size-width, everyIn-width, everyIn-below}
 use Rattle.meaning.specs.Lists.{allOf}
 use Rattle.meaning.specs.Sheet.{nOf, kind, parent, isChild}
 use Rattle.meaning.specs.Check.{sheetRefusal}
 use Rattle.meaning.specs.Hierarchy.{children, memberOk, consistent}
 use Rattle.meaning.proofs.SheetLaws.{sound, n-le}
+use Rattle.sheet.proofs.MaskLaws.{children-lt}
 
 module _ (s : List ℕ) (h : sheetRefusal s ≡ 0) where
   pub fits-32 : {x : ℕ} → x < 2 ^ nOf s → x < 2 ^ 32
   fits-32 l = lt-of-lt-of-le l (pow-le-pow-right (omega arith) (n-le s (sound s h)))
-
-  children-lt : (m : ℕ) → children s m < 2 ^ nOf s
-  unfolding children
-  children-lt m = setOf-lt (nOf s) (isChild s m)
 
   one-child : (x m : ℕ) → size (nOf s) (those (nOf s) x (isChild s m)) ≡ size 32 (meet x (children s m))
   unfolding children
@@ -46,7 +43,7 @@ module _ (s : List ℕ) (h : sheetRefusal s ≡ 0) where
       unfolding memberOk allOf
       member-parallel k =
           rw (e, k)
-          (everyIn-width 32 (nOf s) (has x) (fits-32 (children-lt m)) (children-lt m)
+          (everyIn-width 32 (nOf s) (has x) (fits-32 (children-lt s m)) (children-lt s m)
           ∙ sym (and-true (everyIn (nOf s) (children s m) (has x))))
 
       pub member-atomic : (kind s m ≡ 1 → ⊥) → (kind s m ≡ 2 → ⊥) → true ≡ memberOk s x m

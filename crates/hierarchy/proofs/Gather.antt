@@ -1,49 +1,16 @@
--- The highest number below k that passes a test, and the union of sets over the numbers below k that pass one: what each holds,
--- and one turn of the loop that makes it. Assumes nothing.
+-- The union of sets over the numbers below k that pass a test: what it holds. Assumes nothing.
 use mathlib.Core.Path.{_≡_, refl, ap₂, subst}
 use mathlib.Core.Logic.{_⊎_, inl, inr, ⊎-elim}
 use mathlib.Core.Bool.{Bool, true, false, cond}
-use Prim.Native.Nat.{ℕ, zero, suc, _+_, _<_}
+use Prim.Native.Nat.{ℕ, zero, suc, _<_}
 use native.Mathlib.Nat.{le-refl, not-suc-le-zero, le-of-suc-le-suc, eq-or-lt-of-le}
-use native.Mathlib.Numerals.{add-one}
 use native.Mathlib.Omega.{arith}
 use lib.Dec.{T}
 use Rattle.sets.specs.Sets.{has, union}
 use Rattle.sets.proofs.Tests.{of-true, of-false}
 use Rattle.sets.proofs.Membership.{has-none}
 use Rattle.sets.proofs.Facts.{union-e, union-l, union-r}
-use Rattle.hierarchy.specs.Below.{last, gather}
-
--- ---- the highest number below k that passes p, or d
-
-module _ (p : ℕ → Bool) (d : ℕ) where
-  -- it passes, or none does and it is d
-  pub last-cases : (k : ℕ) → ((last p d k < k) × T (p (last p d k))) ⊎ ((last p d k ≡ d) × ((i : ℕ) → i < k → T (p i) → ⊥))
-  unfolding last
-  last-cases zero = inr (refl, λ i l. absurd (not-suc-le-zero l))
-  last-cases (suc k) = go (p k) refl (last-cases k)
-    where
-      none : p k ≡ false → ((i : ℕ) → i < k → T (p i) → ⊥) → (i : ℕ) → i < suc k → T (p i) → ⊥
-      none e f i l h = ⊎-elim (λ q. of-false e (subst (λ (j : ℕ). T (p j)) q h)) (λ q. f i q h) (eq-or-lt-of-le (le-of-suc-le-suc l))
-
-      go : (b : Bool) → p k ≡ b → ((last p d k < k) × T (p (last p d k))) ⊎ ((last p d k ≡ d) × ((i : ℕ) → i < k → T (p i) → ⊥))
-          → ((cond b k (last p d k) < suc k) × T (p (cond b k (last p d k)))) ⊎ ((cond b k (last p d k) ≡ d) × ((i : ℕ) → i < suc k → T (p i) → ⊥))
-      go true e ih = inl (le-refl (suc k), of-true e)
-      go false e (inl f) = inl (omega (arith, f .0), f .1)
-      go false e (inr f) = inr (f .0, none e (f .1))
-
-  pub last-hit : (k : ℕ) → p k ≡ true → last p d (k + 1) ≡ k
-  unfolding last
-  last-hit k e = rw (add-one, e)
-
-  pub last-miss : (k : ℕ) → p k ≡ false → last p d (k + 1) ≡ last p d k
-  unfolding last
-  last-miss k e = rw (add-one, e)
-
-  pub last-none : (k : ℕ) → ((i : ℕ) → i < k → p i ≡ false) → last p d k ≡ d
-  last-none k f = ⊎-elim (λ h. absurd (of-false (f (last p d k) (h .0)) (h .1))) (λ h. h .0) (last-cases k)
-
--- ---- the union of g i over the numbers i below k that pass p
+use Rattle.hierarchy.specs.Below.{gather}
 
 module _ (p : ℕ → Bool) (g : ℕ → ℕ) where
   pub gather-e : (k y : ℕ) → T (has (gather p g k) y) → (c : ℕ) × (c < k) × T (p c) × T (has (g c) y)
@@ -67,19 +34,6 @@ module _ (p : ℕ → Bool) (g : ℕ → ℕ) where
       go true q (inr i) ih = union-l (gather p g k) (g k) y (ih i)
       go false q (inl i) ih = absurd (of-false q (subst (λ (j : ℕ). T (p j)) i e))
       go false q (inr i) ih = ih i
-
-  pub gather-hit : (k : ℕ) → p k ≡ true → gather p g (k + 1) ≡ union (gather p g k) (g k)
-  unfolding gather
-  gather-hit k e = rw (add-one, e)
-
-  pub gather-miss : (k : ℕ) → p k ≡ false → gather p g (k + 1) ≡ gather p g k
-  unfolding gather
-  gather-miss k e = rw (add-one, e)
-
-  pub gather-none : (k : ℕ) → ((i : ℕ) → i < k → p i ≡ false) → gather p g k ≡ 0
-  unfolding gather
-  gather-none zero f = refl
-  gather-none (suc k) f = rw (f k (omega arith)) (gather-none k (λ i l. f i (omega arith)))
 
   pub gather-same : (g′ : ℕ → ℕ) (k : ℕ) → ((c : ℕ) → c < k → T (p c) → g c ≡ g′ c) → gather p g k ≡ gather p g′ k
   unfolding gather

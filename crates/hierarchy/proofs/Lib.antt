@@ -1,5 +1,5 @@
 pub mod Gather
 pub mod BelowLaws
-pub mod InsideLaws
 pub mod TransitionLaws
 pub mod ConsistentLaws
+pub mod UnionLaws

@@ -1,26 +1,30 @@
--- What a transition exits and enters: its ends in its meeting mode, and the path down to its target, climbed one parent at a time
--- and completed. Assumes nothing.
-use mathlib.Core.Path.{_≡_, refl, sym, ap, _∙_, subst}
+-- What a transition exits and enters: its ends in its meeting mode, the child that holds a mode and the path down to a mode from the
+-- masks, the path completed. Assumes nothing.
+use mathlib.Core.Path.{_≡_, refl, sym, ap, ap₂, _∙_, subst}
 use mathlib.Core.Logic.{_⊎_, inl, inr, ⊎-elim}
-use mathlib.Core.Bool.{Bool, true, false, not, _&&_}
+use mathlib.Core.Bool.{Bool, true, false, not, _&&_, and-comm}
 use mathlib.Core.List.{List}
 use Prim.Native.Nat.{ℕ, _≤_, _<_}
-use native.Mathlib.Nat.{le-antisymm, lt-of-le-of-lt}
+use native.Mathlib.Nat.{lt-of-le-of-lt}
 use native.Mathlib.Omega.{arith}
-use lib.Dec.{T, eqb, eqb→eq, not-T}
-use lib.ListN.{getD}
-use borrow.Author.Tests.{eqb-true, eqb-false}
-use Rattle.sets.specs.Sets.{has, union, single, setOf}
-use Rattle.sets.proofs.Tests.{and-l, and-r, and-i, bool-ext}
-use Rattle.sets.proofs.Membership.{same-members}
-use Rattle.sets.proofs.Facts.{union-e, union-l, union-r, single-e, single-i, setOf-e, setOf-i}
+use lib.Dec.{T, eqb, eqb→eq, T-not, not-T}
+use borrow.Author.Tests.{eqb-true, eqb-false, eq-eqb}
+use Rattle.sets.specs.Sets.{has, meet, setOf, those, lowest}
+use Rattle.sets.proofs.Tests.{is-true, is-false, of-true, and-l, and-r, and-i}
+use Rattle.sets.proofs.Membership.{has-meet, setOf-same}
+use Rattle.sets.proofs.Facts.{setOf-e, setOf-i}
+use Rattle.sets.proofs.Members.{lowest-unique}
+use Rattle.sets.proofs.Widths.{meet-setOf}
 use Rattle.meaning.specs.Sheet.{nOf, tOf, parent, source, target, contains, strictlyContains, meeting}
 use Rattle.meaning.specs.Hierarchy.{childHolding, exits, enters}
-use Rattle.meaning.proofs.SheetLaws.{parent-n, Sound, tree}
-use Rattle.meaning.proofs.Containment.{Within, here, up, within-le, within-trans, within-strict, within-total, contains-e, contains-i, siblings, Child, ends}
+use Rattle.meaning.specs.Within.{within}
+use Rattle.meaning.proofs.SheetLaws.{Rooted, parent-n, Sound, tree}
+use Rattle.meaning.proofs.Containment.{Within, here, up, within-le, within-trans, within-strict, within-total, contains-e, contains-i, strictly-lt, siblings, Child, child-holding, ends}
+use Rattle.meaning.proofs.WithinLaws.{has-within}
 use Rattle.meaning.proofs.Completion.{Based}
+use Rattle.sheet.specs.Masks.{containers}
+use Rattle.sheet.proofs.ContainmentLaws.{has-containers}
 use Rattle.hierarchy.specs.Below.{branch}
-use Rattle.hierarchy.specs.Inside.{Insides}
 use Rattle.hierarchy.proofs.BelowLaws.{complete-branch}
 
 -- the modes from c down to m
@@ -37,52 +41,6 @@ module _ (s : List ℕ) (sd : Sound s) (m : ℕ) (mn : m < nOf s) where
   path-i c y l a b =
       setOf-i (nOf s) (λ i. contains s c i && contains s i m) y l
       (and-i (contains s c y) (contains s y m) (contains-i s (tree s sd) y a l) (contains-i s (tree s sd) m b mn))
-
-  -- ---- the climb: its start at m, and its step from x to the parent of x
-
-  pub path-start : single m ≡ pathOf s m m
-  path-start =
-      same-members (λ y. bool-ext (has (single m) y) (has (pathOf s m m) y)
-      (λ h. subst (λ (i : ℕ). T (has (pathOf s m m) i)) (sym (single-e m y h)) (path-i m m mn here here))
-      (λ h.
-      let r = path-e m y h in
-      subst (λ (i : ℕ). T (has (single m) i)) (le-antisymm (within-le s (tree s sd) (r .1) (r .0)) (within-le s (tree s sd) (r .2) mn)) (single-i m)))
-
-  pub path-step : (x : ℕ) → 0 < x → x < nOf s → Within s x m → union (pathOf s x m) (single (parent s x)) ≡ pathOf s (parent s x) m
-  path-step x pos l w =
-      same-members (λ y. bool-ext (has (union (pathOf s x m) (single p)) y) (has (pathOf s p m) y)
-      (λ h. fwd y (union-e (pathOf s x m) (single p) y h)) (λ h. let r = path-e p y h in bwd y (r .0) (r .1) (r .2) (within-total w (r .2))))
-    where
-      p : ℕ
-      p = parent s x
-
-      pn : p < nOf s
-      pn = parent-n s (tree s sd) x l
-
-      px : Within s p x
-      px = up pos here
-
-      fwd : (y : ℕ) → T (has (pathOf s x m) y) ⊎ T (has (single p) y) → T (has (pathOf s p m) y)
-      fwd y (inl h) = let r = path-e x y h in path-i p y (r .0) (within-trans px (r .1)) (r .2)
-      fwd y (inr h) = subst (λ (i : ℕ). T (has (pathOf s p m) i)) (sym (single-e p y h)) (path-i p p pn here (within-trans px w))
-
-      bwd : (y : ℕ) → y < nOf s → Within s p y → Within s y m → Within s x y ⊎ Within s y x → T (has (union (pathOf s x m) (single p)) y)
-      bwd y k a b (inl v) = union-l (pathOf s x m) (single p) y (path-i x y k v b)
-      bwd y k a b (inr v) = go (eqb y x) refl
-        where
-          go : (t : Bool) → eqb y x ≡ t → T (has (union (pathOf s x m) (single p)) y)
-          go true e = union-l (pathOf s x m) (single p) y (path-i x y k (subst (λ (i : ℕ). Within s i y) (eqb-true y x e) here) b)
-          go false e =
-              let u = within-strict v (eqb-false y x e) .1 in
-              union-r (pathOf s x m) (single p) y (subst (λ (i : ℕ). T (has (single p) i)) (le-antisymm (within-le s (tree s sd) a k) (within-le s (tree s sd) u pn)) (single-i p))
-
-  pub path-turn : (c x p r b : ℕ) → c < x → x < nOf s → Within s c x → Within s x m → r ≡ pathOf s x m → p ≡ parent s x → b ≡ single p
-      → (p < nOf s) × Within s c p × Within s p m × (union r b ≡ pathOf s p m)
-  path-turn c x p r b h l v w i e k =
-      rw (e, k, e, i) (parent-n s (tree s sd) x l, within-strict v (λ q. omega arith) .1, within-trans (up (omega arith) here) w, path-step x (omega arith) l w)
-
-  pub path-end : (c x r : ℕ) → x ≤ c → x < nOf s → Within s c x → r ≡ pathOf s x m → r ≡ pathOf s c m
-  path-end c x r h l v i = i ∙ ap (λ (y : ℕ). pathOf s y m) (le-antisymm h (within-le s (tree s sd) v l))
 
   -- ---- completed, it is the branch of its top
 
@@ -103,33 +61,95 @@ module _ (s : List ℕ) (sd : Sound s) (m : ℕ) (mn : m < nOf s) where
           ⊎-elim (siblings s (tree s sd) y z ly py pz q) (λ v. sym (siblings s (tree s sd) z y lz pz py (sym q) v))
           (within-total (path-e c y h .2) (path-e c z k .2))
 
--- ---- the ends of a transition
+-- ---- the child that holds a mode, and the path, from the masks
 
 -- a mode strictly contains what its child holds
-child-held : (s : List ℕ) (sd : Sound s) (p m c : ℕ) → m < nOf s → Child s p m c → T (strictlyContains s p m)
+child-held : (s : List ℕ) (ro : Rooted s) (p m c : ℕ) → m < nOf s → Child s p m c → T (strictlyContains s p m)
 unfolding strictlyContains
-child-held s sd p m c mn h =
-    let cm = within-le s (tree s sd) (h .holds) mn in
-    let pc : p < c = subst (λ (i : ℕ). i < c) (h .par) (tree s sd .lower c (h .pos) (lt-of-le-of-lt cm mn)) in
+child-held s ro p m c mn h =
+    let cm = within-le s ro (h .holds) mn in
+    let pc : p < c = subst (λ (i : ℕ). i < c) (h .par) (ro .lower c (h .pos) (lt-of-le-of-lt cm mn)) in
     and-i (not (eqb p m)) (contains s p m) (not-T (eqb p m) (λ e. omega (arith, cm, eqb→eq p m e)))
-    (contains-i s (tree s sd) m (within-trans (subst (λ (i : ℕ). Within s i c) (h .par) (up (h .pos) here)) (h .holds)) mn)
+    (contains-i s ro m (within-trans (subst (λ (i : ℕ). Within s i c) (h .par) (up (h .pos) here)) (h .holds)) mn)
+
+module _ (s : List ℕ) (ro : Rooted s) (p m : ℕ) (mn : m < nOf s) (h : T (strictlyContains s p m)) where
+  abbrev held : ℕ
+  held = childHolding s p m
+
+  strict : Within s p m × (p ≡ m → ⊥)
+  unfolding strictlyContains
+  strict = (
+    contains-e s ro p m (and-r (not (eqb p m)) (contains s p m) h),
+    λ e. T-not (eqb p m) (and-l (not (eqb p m)) (contains s p m) h) (of-true (eq-eqb p m e)),
+  )
+
+  child : Child s p m held
+  child = child-holding s ro p m mn (strict .0) (strict .1)
+
+  pub held-mode : held < nOf s
+  held-mode = lt-of-le-of-lt (within-le s ro (child .holds) mn) mn
+
+  pub holder-mode : p < nOf s
+  holder-mode = lt-of-le-of-lt (within-le s ro (strict .0) mn) mn
+
+  -- the modes within p that contain m
+  abbrev between : ℕ
+  between = meet (within s p) (containers s m)
+
+  has-between : (y : ℕ) → y < nOf s → has between y ≡ (strictlyContains s p y && contains s y m)
+  has-between y l = has-meet (within s p) (containers s m) y ∙ ap₂ _&&_ (has-within s p y l) (has-containers s ro m y mn)
+
+  -- none has a lower number than the child of p that holds m
+  not-lower : (y : ℕ) → y < nOf s → T (has between y) → held ≤ y
+  not-lower y l k = go (within-total (child .holds) (contains-e s ro y m (and-r (strictlyContains s p y) (contains s y m) t)))
+    where
+      t : T (strictlyContains s p y && contains s y m)
+      t = subst (λ (b : Bool). T b) (has-between y l) k
+
+      same : (b : Bool) → eqb y held ≡ b → Within s y held → held ≤ y
+      same true e u = omega (arith, eqb-true y held e)
+      same false e u =
+          let v = subst (λ (i : ℕ). Within s y i) (child .par) (within-strict u (eqb-false y held e) .1) in
+          absurd (omega (arith, within-le s ro v holder-mode, strictly-lt s ro p y l (and-l (strictlyContains s p y) (contains s y m) t)))
+
+      go : Within s held y ⊎ Within s y held → held ≤ y
+      go (inl u) = within-le s ro u l
+      go (inr u) = same (eqb y held) refl u
+
+  pub held-lowest : nOf s ≤ 32 → lowest 32 between ≡ held
+  held-lowest small =
+      lowest-unique
+      (record {
+        small = omega (arith, held-mode);
+        member =
+            has-between held held-mode
+            ∙ is-true (strictlyContains s p held && contains s held m)
+            (and-i (strictlyContains s p held) (contains s held m)
+            (child-held s ro p held held held-mode (record { pos = child .pos; par = child .par; holds = here })) (contains-i s ro m (child .holds) mn));
+        least = λ j l. is-false (has between j) (λ k. omega (arith, not-lower j (omega (arith, held-mode)) k));
+      })
+
+-- the modes from c down to m
+pub path-masks : (s : List ℕ) (ro : Rooted s) (c m : ℕ) → m < nOf s → meet (containers s m) (setOf (nOf s) (contains s c)) ≡ pathOf s c m
+unfolding those
+path-masks s ro c m mn =
+    meet-setOf (nOf s) (containers s m) (contains s c)
+    ∙ setOf-same (nOf s) (λ y. has (containers s m) y && contains s c y) (λ y. contains s c y && contains s y m)
+    (λ y l. ap (λ (b : Bool). b && contains s c y) (has-containers s ro m y mn) ∙ and-comm (contains s y m) (contains s c y))
+
+-- ---- the ends of a transition
 
 -- p is the meeting mode of t, a its source, b its target, c the child of p that holds the one or the other
 module _ (s : List ℕ) (sd : Sound s) (t : ℕ) (l : t < tOf s) (p : ℕ) (meets : p ≡ meeting s t) where
   pub source-held : (a : ℕ) → a ≡ source s t → (a < nOf s) × T (strictlyContains s p a)
-  source-held a i = let e = ends s sd t l in rw (i, meets) (e .source-n, child-held s sd (meeting s t) (source s t) _ (e .source-n) (e .left))
+  source-held a i = let e = ends s sd t l in rw (i, meets) (e .source-n, child-held s (tree s sd) (meeting s t) (source s t) _ (e .source-n) (e .left))
 
   pub target-held : (b : ℕ) → b ≡ target s t → (b < nOf s) × T (strictlyContains s p b)
-  target-held b i = let e = ends s sd t l in rw (i, meets) (e .target-n, child-held s sd (meeting s t) (target s t) _ (e .target-n) (e .right))
+  target-held b i = let e = ends s sd t l in rw (i, meets) (e .target-n, child-held s (tree s sd) (meeting s t) (target s t) _ (e .target-n) (e .right))
 
-  pub exits-word : (a c : ℕ) (inside : List ℕ) → a ≡ source s t → c ≡ childHolding s p a → Insides s inside → getD inside c 0 ≡ exits s t
-  unfolding Insides exits
-  exits-word a c inside i j k =
-      let e = ends s sd t l in
-      rw (j, i, meets) (k _ (lt-of-le-of-lt (within-le s (tree s sd) (e .left .holds) (e .source-n)) (e .source-n)))
-
-  pub path-held : (b c : ℕ) → b ≡ target s t → c ≡ childHolding s p b → T (contains s c b)
-  path-held b c i j = let e = ends s sd t l in rw (j, i, meets) (contains-i s (tree s sd) (target s t) (e .right .holds) (e .target-n))
+  pub exits-inside : (a c : ℕ) → a ≡ source s t → c ≡ childHolding s p a → setOf (nOf s) (contains s c) ≡ exits s t
+  unfolding exits
+  exits-inside a c i j = rw (j, i, meets)
 
   pub enters-branch : (b c way : ℕ) → b ≡ target s t → c ≡ childHolding s p b → way ≡ pathOf s c b → branch s way c ≡ enters s t
   unfolding enters

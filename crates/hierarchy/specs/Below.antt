@@ -3,13 +3,8 @@ use mathlib.Core.Bool.{Bool, _&&_, cond}
 use mathlib.Core.List.{List}
 use Prim.Native.Nat.{ℕ, zero, suc}
 use lib.Dec.{eqb}
-use Rattle.sets.specs.Sets.{has, union, single}
+use Rattle.sets.specs.Sets.{has, union, single, last}
 use Rattle.meaning.specs.Sheet.{nOf, kind, first, isChild}
-
--- the highest number below k that passes p; d if none does
-unfoldable pub last : (ℕ → Bool) → ℕ → ℕ → ℕ
-last p d zero = d
-last p d (suc k) = let r = last p d k in cond (p k) k r
 
 -- the union of g i over the numbers i below k that pass p
 unfoldable pub gather : (ℕ → Bool) → (ℕ → ℕ) → ℕ → ℕ

@@ -1,2 +1,2 @@
 pub mod Below
-pub mod Inside
+pub mod Unions

@@ -4,39 +4,23 @@ ghost use Prim.Native.Nat.{_^_, _<_};
 ghost use Rattle.sets.specs.Sets.{everyIn};
 ghost use Rattle.meaning.specs.Sheet.{nOf};
 ghost use Rattle.meaning.specs.Check.{sheetRefusal};
-ghost use Rattle.meaning.specs.Hierarchy.{children, memberOk, consistent};
+ghost use Rattle.meaning.specs.Hierarchy.{memberOk, consistent};
+ghost use Rattle.sheet.specs.Masks.{Children};
 use sets::modes;
-use sheet::words::is_child;
+use sheet::hierarchy::children;
 use sheet::words::kind;
 use sheet::words::mode_count;
 use sheet::words::parent;
 
-// The children of mode m.
-pub fn children_of(sheet: &[u32], m: usize) -> u32
-    requires { ⌜ sheetRefusal (now sheet) ≡ 0 ⌝ }
-    ensures { λ r. ⌜ r ≡ children (now (sheet .entry)) m ⌝ }
-{
-    let n = mode_count(sheet);
-    let mut r = 0u32;
-    let mut c = 0;
-    while c < n {
-        if is_child(sheet, m, c) {
-            r |= modes::single(c);
-        }
-        c += 1;
-    }
-    r
-}
-
 // A member m of the set x has its parent in it, just one child if serial, all children if parallel.
-fn member_ok(sheet: &[u32], x: u32, m: usize) -> bool
-    requires { ⌜ (sheetRefusal (now sheet) ≡ 0) × (m < nOf (now sheet)) ⌝ }
+fn member_ok(sheet: &[u32], children: &[u32; 32], x: u32, m: usize) -> bool
+    requires { ⌜ (sheetRefusal (now sheet) ≡ 0) × (m < nOf (now sheet)) × Children (now sheet) (now children) ⌝ }
     ensures { λ r. ⌜ r ≡ memberOk (now (sheet .entry)) x m ⌝ }
 {
     if !modes::has(x, parent(sheet, m)) {
         return false;
     }
-    let all = children_of(sheet, m);
+    let all = children[m];
     let k = kind(sheet, m);
     match k {
         1 => modes::one_member(x & all),
@@ -46,13 +30,13 @@ fn member_ok(sheet: &[u32], x: u32, m: usize) -> bool
 }
 
 // Every member of x is as it must be; x has modes below n only.
-fn members_ok(sheet: &[u32], x: u32) -> bool
-    requires { ⌜ (sheetRefusal (now sheet) ≡ 0) × (x < 2 ^ nOf (now sheet)) ⌝ }
+fn members_ok(sheet: &[u32], children: &[u32; 32], x: u32) -> bool
+    requires { ⌜ (sheetRefusal (now sheet) ≡ 0) × (x < 2 ^ nOf (now sheet)) × Children (now sheet) (now children) ⌝ }
     ensures { λ r. ⌜ r ≡ everyIn (nOf (now (sheet .entry))) x (memberOk (now (sheet .entry)) x) ⌝ }
 {
     let mut rest = x;
     while rest != 0 {
-        if !member_ok(sheet, x, modes::lowest(rest)) {
+        if !member_ok(sheet, children, x, modes::lowest(rest)) {
             return false;
         }
         rest = modes::without_lowest(rest);
@@ -68,5 +52,6 @@ pub fn is_consistent(sheet: &[u32], x: u32) -> bool
     if !modes::within(x, modes::below(mode_count(sheet))) || !modes::has(x, 0) {
         return false;
     }
-    members_ok(sheet, x)
+    let children = children(sheet);
+    members_ok(sheet, &children, x)
 }

@@ -1,5 +1,5 @@
 // What a transition exits and enters, power-on's modes, and which sets are consistent: worked out from the mode tree.
 pub mod complete;
 pub mod consistent;
-pub mod inside;
 pub mod transition;
+pub mod unions;

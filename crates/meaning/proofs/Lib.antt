@@ -25,6 +25,7 @@ pub mod ServedLaws
 pub mod WholeListLaws
 pub mod StateLaws
 pub mod HighestLevel
+pub mod WithinLaws
 pub mod TableFaithful
 pub mod TableSound
 pub mod CompiledLaws

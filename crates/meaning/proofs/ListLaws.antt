@@ -140,6 +140,10 @@ rowFrom-getD {A} l a =
     ext-getD a l (rowFrom 0 (length l) f) (sym (rowFrom-length f 0 (length l)))
     (λ i h. sym (rowFrom-at f a 0 (length l) i h ∙ ap f (zero-add i)))
 
+-- the end of a loop that fills an array word by word with f 0, f 1, ..
+pub row-done : (f : ℕ → ℕ) (r : List ℕ) (w : ℕ) → length r ≡ w → ((u : ℕ) → u < w → getD r u 0 ≡ f u) → r ≡ rowFrom 0 w f
+row-done f r w n h = rw n at (rowFrom-getD r 0) ∙ rowFrom-ext (λ u. getD r u 0) f 0 w (λ u a b. h u (omega arith))
+
 -- a member of the list has p
 unfoldable pub anyOf : (ℕ → Bool) → List ℕ → Bool
 anyOf p [] = false

@@ -8,11 +8,11 @@ use native.Mathlib.Nat.{le-trans, le-of-eq, le-of-lt, lt-of-le-of-lt, eq-zero-or
 use native.Mathlib.Omega.{arith}
 use lib.Dec.{T, eqb, ltb, eqb→eq, ltb→lt, leb→le}
 use lib.ListN.{length}
-use borrow.Author.Tests.{not-false, eq-eqb, ne-eqb}
+use borrow.Author.Tests.{not-true, not-false, eq-eqb, ne-eqb}
 use Rattle.sets.specs.Sets.{every}
-use Rattle.sets.proofs.Tests.{of-true, and-l, and-r, above-not}
+use Rattle.sets.proofs.Tests.{is-true, of-true, and-l, and-r, above-not}
 use Rattle.sets.proofs.Facts.{every-e}
-use Rattle.meaning.specs.Sheet.{nOf, kOf, tOf, kind, parent, first, isChild, source, endBefore, termCount}
+use Rattle.meaning.specs.Sheet.{nOf, kOf, tOf, kind, parent, first, isChild, source, target, endBefore, termCount, contains}
 use Rattle.meaning.specs.Check.{headOk, modeOk, modesOk, pairOk, pairsOk, endOk, endsOk, kindOk, termOk, termsOk, distinctOk, sheetRefusal}
 use Rattle.meaning.proofs.ListLaws.{allOf-e, firstOf-off}
 
@@ -109,6 +109,13 @@ module _ (s : List ℕ) (h : Sound s) where
   pub source-lt : (t : ℕ) → t < tOf s → source s t < nOf s
   unfolding endOk
   source-lt t l = ltb→lt (source s t) (nOf s) (allOf-e _ (h .ends t l) .0)
+
+  -- neither end of a transition contains the other
+  pub ends-apart : (t : ℕ) → t < tOf s → (contains s (source s t) (target s t) ≡ false) × (contains s (target s t) (source s t) ≡ false)
+  unfolding endOk
+  ends-apart t l =
+      let e = allOf-e _ (h .ends t l) .1 .1 in
+      (not-true _ (is-true _ (e .0)), not-true _ (is-true _ (e .1 .0)))
 
 -- there is no kind of term above 7
 pub kind-none : (s : List ℕ) (t j c : ℕ) → 7 < c → kindOk s t j c ≡ false

@@ -14,6 +14,7 @@ use Rattle.meaning.proofs.ServedLaws.{served-from-power-on}
 use Rattle.meaning.proofs.WholeListLaws.{served-each}
 use Rattle.meaning.proofs.StateLaws.{sheet-state-stays, table-state-stays, sheet-runs-on, table-runs-on, faithful-not-stale}
 use Rattle.meaning.proofs.HighestLevel.{highest-level-first}
+use Rattle.meaning.proofs.WithinLaws.{mask-exact, mask-no-other, conflict-by-mask, gives-way-by-mask}
 use Rattle.meaning.proofs.MillisecondsLaws.{whole-delay, rest-below, ticks-fit}
 use Rattle.meaning.proofs.SheetLaws.{sound}
 use Rattle.meaning.proofs.CompiledLaws.{compiled-faithful-from, compiled-passes}
@@ -60,6 +61,10 @@ promised =
       compiledFaithful = compiled-faithful;
       faithfulServes = faithful-serves;
       highestLevelFirst = highest-level-first;
+      maskExact = mask-exact;
+      maskNoOther = mask-no-other;
+      conflictByMask = conflict-by-mask;
+      givesWayByMask = gives-way-by-mask;
       wholeDelay = whole-delay;
       restBelow = rest-below;
       ticksFit = ticks-fit;

@@ -3,7 +3,7 @@
 use mathlib.Core.Path.{_≡_, refl}
 use mathlib.Core.Bool.{true, false}
 use mathlib.Core.List.{List, [], _∷_, _++_}
-use Prim.Native.Nat.{ℕ}
+use Prim.Native.Nat.{ℕ, _+_, _-_, _^_}
 use lib.ListN.{replicate}
 use Rattle.meaning.specs.Lists.{rowFrom}
 use Rattle.meaning.specs.Run.{powerOn}
@@ -11,6 +11,7 @@ use Rattle.meaning.specs.SheetRun.{sheetRun}
 use Rattle.meaning.specs.Table.{tableOk}
 use Rattle.meaning.specs.TableRun.{tableRun}
 use Rattle.meaning.specs.Compile.{compile}
+use Rattle.meaning.specs.Within.{masksOf}
 use Rattle.meaning.specs.Milliseconds.{milliseconds}
 use Rattle.meaning.specs.Faithful.{faithful}
 use Rattle.meaning.specs.Charts.{atomic, serial, parallel, after, present, absent, taken, transition, sheetOf, rings}
@@ -86,6 +87,10 @@ three-levels =
     (serial 0 1 ∷ parallel 0 ∷ atomic 0 ∷ serial 1 5 ∷ atomic 1 ∷ parallel 3 ∷ atomic 3 ∷ serial 5 9 ∷ atomic 5 ∷ atomic 7 ∷ atomic 7 ∷ [])
     (transition 9 10 (present 0) ∷ transition 8 6 (present 1) ∷ transition 4 2 (present 2) ∷ [])
 
+-- 32 modes, each but the first within the one before
+abbrev one-chain : List ℕ
+one-chain = sheetOf 0 (serial 0 1 ∷ rowFrom 1 30 (λ m. serial (m - 1) (m + 1)) ++ (atomic 30 ∷ [])) []
+
 -- the words of one tick from power-on
 abbrev first-tick : List ℕ → ℕ → List ℕ
 first-tick s i = sheetRun s powerOn (i ∷ []) (lent 5) .out
@@ -157,6 +162,11 @@ pub record Examples : Type 0 where
   pub level-lowest : first-tick three-levels 1 ≡ 1979 ∷ 512 ∷ 1979 ∷ 1 ∷ 0 ∷ []
   pub level-middle : first-tick three-levels 3 ≡ 1019 ∷ 928 ∷ 1019 ∷ 2 ∷ 0 ∷ []
   pub level-highest : first-tick three-levels 7 ≡ 959 ∷ 954 ∷ 959 ∷ 4 ∷ 0 ∷ []
+  -- Ask 3: the masks, 0 for a mode with none within it and for a number that is no mode; a mode is not within itself
+  pub masks : masksOf sheet ≡ record { refusal = 0; masks = 6 ∷ replicate 31 0 }
+  pub masks-of-levels : masksOf three-levels ≡ record { refusal = 0; masks = 2046 ∷ 2040 ∷ 0 ∷ 2016 ∷ 0 ∷ 1920 ∷ 0 ∷ 1536 ∷ replicate 24 0 }
+  pub masks-of-chain : masksOf one-chain ≡ record { refusal = 0; masks = rowFrom 0 32 (λ p. 2 ^ 32 - 2 ^ (p + 1)) }
+  pub no-masks : masksOf [] ≡ record { refusal = 1; masks = replicate 32 0 }
   -- Ask 7: a delay shorter than the tick is 0 ticks; 12 before 20; tick lengths of 0; 65,535 ticks and one more; words past the delays' stay
   pub in-ticks : milliseconds 100 (250 ∷ 99 ∷ 300 ∷ []) (lent 7) ≡ record { refusal = 0; results = 2 ∷ 50 ∷ 0 ∷ 99 ∷ 3 ∷ 0 ∷ 7 ∷ [] }
   pub results-short : milliseconds 0 (250 ∷ []) (lent 1) ≡ record { refusal = 12; results = lent 1 }
@@ -202,6 +212,10 @@ examples =
       level-lowest = refl;
       level-middle = refl;
       level-highest = refl;
+      masks = refl;
+      masks-of-levels = refl;
+      masks-of-chain = refl;
+      no-masks = refl;
       in-ticks = refl;
       results-short = refl;
       tick-of-0 = refl;

@@ -5,6 +5,7 @@ pub mod Check
 pub mod Hierarchy
 pub mod GivesWay
 pub mod Reaction
+pub mod Within
 pub mod Tick
 pub mod Run
 pub mod SheetRun

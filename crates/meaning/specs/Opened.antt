@@ -8,6 +8,7 @@ use Rattle.meaning.specs.Check.{headOk, modeOk, modesOk, pairOk, pairsOk
 use Rattle.meaning.specs.Hierarchy.{children, memberOk, consistent, brings, completedIn, complete, childIn, childHolding, exits, enters}
 use Rattle.meaning.specs.GivesWay.{givesWay}
 use Rattle.meaning.specs.Reaction.{isDelay, delay, isTimer, running, holds, inFirst, alternativesFrom, alternatives, allHold, alternative, isDue, trigger, triggered, conflict, eligible, ambiguous, restless, exiting, entering, afterRound}
+use Rattle.meaning.specs.Within.{within, withinEach, masksOf}
 use Rattle.meaning.specs.Tick.{fiveWords, begin, chosen, roundsFrom, tick}
 use Rattle.meaning.specs.Run.{reading, powerOn, isFresh, readingsOk, dueTimers, nextReadings, nextState, stops, tickThen, outputShort, inputForeign, ran, tickRefusal, ticks, run}
 use Rattle.meaning.specs.SheetRun.{stateOk, tickFrom, stateAfter, sheetStep, sheetRun}
@@ -45,6 +46,10 @@ unfoldable in-reaction : Unit {0}
 unfolding isDelay delay isTimer running holds inFirst alternativesFrom alternatives allHold alternative isDue trigger triggered conflict eligible ambiguous restless exiting entering afterRound
 in-reaction = tt
 
+unfoldable in-within : Unit {0}
+unfolding within withinEach masksOf
+in-within = tt
+
 unfoldable in-tick : Unit {0}
 unfolding fiveWords begin chosen roundsFrom tick
 in-tick = tt
@@ -78,5 +83,5 @@ unfolding cellFaithful blockFaithful faithful
 in-faithful = tt
 
 unfoldable pub opened : Unit {0}
-unfolding in-sets in-lists in-sheet in-check in-hierarchy in-gives-way in-reaction in-tick in-run in-sheet-run in-table in-table-run in-compile in-milliseconds in-faithful
+unfolding in-sets in-lists in-sheet in-check in-hierarchy in-gives-way in-reaction in-within in-tick in-run in-sheet-run in-table in-table-run in-compile in-milliseconds in-faithful
 opened = tt

@@ -1,27 +1,55 @@
 -- What each call answers and leaves: too few words lent, and otherwise. Assumes nothing.
-use mathlib.Core.Path.{_≡_, refl, ap, _∙_}
+use mathlib.Core.Path.{_≡_, refl, sym, ap, _∙_}
 use mathlib.Core.Logic.{_⊎_, inl, inr}
-use mathlib.Core.Bool.{true, or-true}
+use mathlib.Core.Bool.{Bool, true, false, or-true, cond}
 use mathlib.Core.List.{List, [], _∷_, _++_}
 use Prim.Native.Nat.{ℕ, _+_, _*_, _/_, _%_, _^_, _≤_, _<_}
 use native.Mathlib.Nat.{zero-add}
+use native.Mathlib.Numerals.{add-one}
 use native.Mathlib.Omega.{arith}
-use lib.Dec.{ltb}
-use lib.ListN.{length, drop}
-use lib.Seq.{sets, sets-eq}
-use borrow.Author.Tests.{lt-ltb, le-ltb}
+use lib.Dec.{eqb, ltb}
+use lib.ListN.{length, drop, getD, set}
+use lib.Seq.{sets, sets-eq, paste, paste-suc, take-all}
+use borrow.Author.Tests.{eqb-true, eqb-false, lt-ltb, le-ltb}
 use Rattle.meaning.specs.Lists.{overwritten}
 use Rattle.meaning.specs.Run.{State, Run}
 use Rattle.meaning.specs.SheetRun.{sheetRun}
 use Rattle.meaning.specs.TableRun.{tableRun}
 use Rattle.meaning.specs.Compile.{Compiled, compile}
+use Rattle.meaning.specs.Within.{Masked, masksOf}
 use Rattle.run.specs.States.{wordsOf, stateIn}
-use Rattle.native.specs.Calls.{compileCall, runCall, sheetCall, tableCall}
+use Rattle.native.specs.Calls.{compileCall, WithinCall, withinCall, runCall, sheetCall, tableCall}
 
 -- a row of stores at the front
 sets-front : (vs l : List ℕ) → length vs ≤ length l → sets l 0 vs ≡ overwritten vs l
 unfolding overwritten
 sets-front vs l h = sets-eq vs l 0 (omega arith) ∙ ap (λ (n : ℕ). vs ++ drop n l) (zero-add (length vs))
+
+-- words put one by one at the front
+pub front-turn : (lent words : List ℕ) (i : ℕ) → i < length lent → i < length words → set (paste lent 0 words i) i (getD words i 0) ≡ paste lent 0 words (i + 1)
+front-turn lent words i h k =
+    rw (add-one i) (ap (λ (j : ℕ). set (paste lent 0 words i) j (getD words i 0)) (sym (zero-add i)) ∙ paste-suc lent 0 words i 0 (omega arith) k)
+
+pub front-all : (lent words : List ℕ) (i : ℕ) → i ≡ length words → i ≤ length lent → paste lent 0 words i ≡ overwritten words lent
+unfolding overwritten
+front-all lent words i e h = rw (take-all i words (omega arith), zero-add, e)
+
+-- ---- masks
+
+module _ (sheet masks : List ℕ) where
+  pub within-nothing : length masks < 32 → record { answer = 4294967295; masks = masks } ≡ withinCall sheet masks
+  unfolding withinCall
+  within-nothing h = rw (lt-ltb (length masks) 32 h)
+
+  pub within-answered : 32 ≤ length masks → (o : Masked) (answer : ℕ) (words : List ℕ) → o ≡ masksOf sheet → answer ≡ o .refusal
+      → (answer ≡ 0 → words ≡ overwritten (o .masks) masks) → ((answer ≡ 0 → ⊥) → words ≡ masks)
+      → record { answer = answer; masks = words } ≡ withinCall sheet masks
+  unfolding withinCall
+  within-answered h o answer words e a f g = rw (le-ltb (length masks) 32 h, ← e, ← a) (go (eqb answer 0) refl)
+    where
+      go : (b : Bool) → eqb answer 0 ≡ b → _≡_ {A = WithinCall} (record { answer = answer; masks = words }) (record { answer = answer; masks = cond b (overwritten (o .masks) masks) masks })
+      go true k = rw (f (eqb-true answer 0 k))
+      go false k = rw (g (eqb-false answer 0 k))
 
 -- ---- compile
 

@@ -2,13 +2,14 @@
 use mathlib.Core.Bool.{_||_, cond}
 use mathlib.Core.List.{List, [], _∷_}
 use Prim.Native.Nat.{ℕ, _/_, _%_, _^_}
-use lib.Dec.{ltb}
+use lib.Dec.{eqb, ltb}
 use lib.ListN.{length}
 use Rattle.meaning.specs.Lists.{overwritten}
 use Rattle.meaning.specs.Run.{Run}
 use Rattle.meaning.specs.SheetRun.{sheetRun}
 use Rattle.meaning.specs.TableRun.{tableRun}
 use Rattle.meaning.specs.Compile.{compile}
+use Rattle.meaning.specs.Within.{masksOf}
 use Rattle.run.specs.States.{wordsOf, stateIn}
 
 pub record CompileCall : Type 0 where
@@ -24,6 +25,19 @@ compileCall sheet table work info =
     let done : CompileCall =
     record { answer = o .refusal; table = o .table; work = o .work; info = overwritten (o .f ∷ o .tableLength ∷ []) info } in
     cond (ltb (length info) 2) nothing done
+
+pub record WithinCall : Type 0 where
+  pub answer : ℕ
+  pub masks : List ℕ
+
+-- the masks go into the first 32 words; of a refused sheet none do
+unfoldable pub withinCall : List ℕ → List ℕ → WithinCall
+withinCall sheet masks =
+    let o = masksOf sheet in
+    let nothing : WithinCall = record { answer = 4294967295; masks = masks } in
+    let done : WithinCall =
+    record { answer = o .refusal; masks = cond (eqb (o .refusal) 0) (overwritten (o .masks) masks) masks } in
+    cond (ltb (length masks) 32) nothing done
 
 pub record RunCall : Type 0 where
   pub answer : ℕ

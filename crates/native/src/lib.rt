@@ -3,14 +3,18 @@
 // With fewer words in `info` or in the state than asked for, a call does nothing and answers 4294967295.
 ghost use mathlib.Core.Path.{_≡_};
 ghost use mathlib.Core.Bool.{cond};
+ghost use Prim.Native.Nat.{_≤_};
+ghost use lib.ListN.{length};
+ghost use Rattle.meaning.specs.Lists.{overwritten};
 ghost use Rattle.meaning.specs.Check.{sheetRefusal};
 ghost use Rattle.meaning.specs.Table.{tableOk};
 ghost use Rattle.meaning.specs.Milliseconds.{milliseconds};
-ghost use Rattle.native.specs.Calls.{compileCall, sheetCall, tableCall};
+ghost use Rattle.native.specs.Calls.{compileCall, withinCall, sheetCall, tableCall};
 use meaning::refusal::number;
 use run::state::STATE_WORDS;
 use run::state::from_words;
 use run::state::put_state;
+use sheet::within::masks_of;
 
 // What is answered where too few words are lent.
 const NOTHING_DONE: u32 = 4294967295;
@@ -51,6 +55,37 @@ pub extern "C" fn modechart_check_table(table: &[u32]) -> u32
         return 0;
     }
     15
+}
+
+// Words put at the front of lent ones; those after them stay.
+fn put_front(lent: &mut [u32], words: &[u32; 32])
+    requires { ⌜ (length (now words) ≡ 32) × (32 ≤ length (now lent)) ⌝ }
+    ensures { λ _. ⌜ now (lent .exit) ≡ overwritten (now (words .entry)) (now (lent .entry)) ⌝ }
+{
+    let mut i = 0;
+    while i < 32 {
+        lent[i] = words[i];
+        i += 1;
+    }
+}
+
+// masks: 32 words, of each mode the modes strictly within it, 0 for a number that is no mode. A refusal leaves them as they were.
+#[no_mangle]
+pub extern "C" fn modechart_within(sheet: &[u32], masks: &mut [u32]) -> u32
+    ensures { λ r. ⌜ record { answer = r; masks = now (masks .exit) }
+        ≡ withinCall (now (sheet .entry)) (now (masks .entry)) ⌝ }
+{
+    if masks.len() < 32 {
+        return NOTHING_DONE;
+    }
+    let given = masks_of(sheet);
+    let why = given.refusal;
+    let words = given.masks;
+    let answer = number(why);
+    if answer == 0 {
+        put_front(masks, &words);
+    }
+    answer
 }
 
 #[no_mangle]

@@ -3,25 +3,21 @@ use mathlib.Core.Path.{_≡_, refl, ap, _∙_}
 use mathlib.Core.Logic.{_⊎_, inl, inr, ⊎-elim}
 use mathlib.Core.Bool.{Bool, true, false, _&&_, _||_}
 use mathlib.Core.List.{List, [], _∷_}
-use Prim.Native.Nat.{ℕ, zero, suc, _+_, _%_, _^_, _≤_, _<_}
-use native.Mathlib.Nat.{lt-of-lt-of-le, mod-eq-of-lt, pow-le-pow-right}
+use Prim.Native.Nat.{ℕ, zero, suc, _+_, _^_, _≤_, _<_}
 use native.Mathlib.Omega.{arith}
 use lib.Dec.{T, leb, leb→le}
-use lib.ListN.{length, set}
+use lib.ListN.{length, set, replicate, getD-replicate}
 use Rattle.sets.specs.Sets.{single}
 use Rattle.sets.proofs.Tests.{and-l, and-r, or-e}
-use Rattle.sets.proofs.Membership.{setOf-lt}
 use Rattle.rows.specs.Over.{over}
 use Rattle.meaning.specs.Lists.{rowFrom}
-use Rattle.meaning.specs.Sheet.{nOf, kOf, tOf}
+use Rattle.meaning.specs.Sheet.{kOf, tOf}
 use Rattle.meaning.specs.Check.{sheetRefusal}
 use Rattle.meaning.specs.Hierarchy.{complete, exits, enters}
-use Rattle.meaning.proofs.ListLaws.{rowFrom-ext}
-use Rattle.meaning.proofs.SheetLaws.{sound, n-le, t-le}
-use Rattle.reaction.specs.Plan.{exitsPart, entersPart, conflictsPart, yieldersPart, losesPart, gainsPart, delaysPart, hitsPart, fromPart, timersWord, mixedWord, startWord, planSize, Planned, sourcesIn, conflictsOf, yieldersOf, timers, timerDelay, mixed, hitsOf}
-use Rattle.planner.specs.Parts.{WordsAt, fromOf}
+use Rattle.meaning.proofs.SheetLaws.{sound, t-le}
+use Rattle.reaction.specs.Plan.{exitsPart, entersPart, conflictsPart, yieldersPart, losesPart, gainsPart, delaysPart, hitsPart, fromPart, timersWord, mixedWord, startWord, planSize, Planned, conflictsOf, yieldersOf, timers, timerDelay, mixed, hitsOf}
+use Rattle.planner.specs.Parts.{WordsAt, fromOf, losesOf, gainsOf}
 use Rattle.planner.proofs.PartLaws.{part-length, part-in, part-beside, part-word}
-use Rattle.planner.proofs.SourceLaws.{changeOf}
 use Rattle.planner.proofs.HitLaws.{inputs-le}
 
 -- ---- parts of a list as long as a plan
@@ -47,12 +43,10 @@ abbrev AllFit : List Piece → Type 0
 AllFit [] = Unit {0}
 AllFit (p ∷ ps) = Fits p × AllFit ps
 
--- a list is some list as long as a plan with these parts laid over it
+-- a list is the plan as it begins, all 0, with these parts laid over it
 pub record Laid (ps : List Piece) (m : List ℕ) : Type 0 where
-  pub base : List ℕ
-  pub long : length base ≡ planSize
   pub fit : AllFit ps
-  pub is : m ≡ laid ps base
+  pub is : m ≡ laid ps (replicate planSize 0)
 
 -- part k, counted from the one that was laid last
 abbrev nth : List Piece → ℕ → Piece
@@ -99,24 +93,45 @@ laid-part (p ∷ ps) (suc k) l h a b =
     part-beside (laid ps l) (p .at) (p .width) (p .word) (omega (arith, a .0 .within, a .0 .inside)) (q .at) (q .width) (q .word)
     (apart q p (fits-nth ps k (a .1) later) (a .0) (and-l (beside q p) (free ps k) b)) (laid-part ps k l h (a .1) later)
 
+-- a part of the list where no part was laid yet: its room lies beside the rooms of all
+abbrev clear : Piece → List Piece → Bool
+clear q [] = true
+clear q (p ∷ ps) = beside q p && clear q ps
+
+laid-clear : (q : Piece) (ps : List Piece) (l : List ℕ) → length l ≡ planSize → Fits q → AllFit ps → T (clear q ps)
+    → WordsAt l (q .at) (q .width) (q .word) → WordsAt (laid ps l) (q .at) (q .width) (q .word)
+laid-clear q [] l h k a b w = w
+laid-clear q (p ∷ ps) l h k a b w =
+    let e = laid-length ps l h (a .1) in
+    part-beside (laid ps l) (p .at) (p .width) (p .word) (omega (arith, a .0 .within, a .0 .inside)) (q .at) (q .width) (q .word)
+    (apart q p k (a .0) (and-l (beside q p) (clear q ps) b)) (laid-clear q ps l h k (a .1) (and-r (beside q p) (clear q ps) b) w)
+
 -- ---- what is known of a list with parts laid over it
 
 pub laid-long : {ps : List Piece} {m : List ℕ} → Laid ps m → length m ≡ planSize
-laid-long {ps} d = ap length (d .is) ∙ laid-length ps (d .base) (d .long) (d .fit)
+laid-long {ps} d = ap length (d .is) ∙ laid-length ps (replicate planSize 0) refl (d .fit)
 
 -- a part stands if no later one was laid over it
 pub laid-has : (k : ℕ) {ps : List Piece} {m : List ℕ} → Laid ps m → T (free ps k) → let q = nth ps k in WordsAt m (q .at) (q .width) (q .word)
-laid-has k {ps} d b = rw (d .is) (laid-part ps k (d .base) (d .long) (d .fit) b)
+laid-has k {ps} d b = rw (d .is) (laid-part ps k (replicate planSize 0) refl (d .fit) b)
 
-pub none-laid : (m : List ℕ) → length m ≡ planSize → Laid [] m
-none-laid m h = record { base = m; long = h; fit = tt; is = refl }
+-- the words are 0 where none was laid yet
+abbrev zeroPiece : ℕ → ℕ → Piece
+zeroPiece i w = record { at = i; room = w; width = w; word = λ _. 0 }
+
+pub laid-zero : (i w : ℕ) {ps : List Piece} {m : List ℕ} → Laid ps m → i + w ≤ planSize → T (clear (zeroPiece i w) ps) → WordsAt m i w (λ _. 0)
+laid-zero i w {ps} d h b =
+    rw (d .is)
+    (laid-clear (zeroPiece i w) ps (replicate planSize 0) refl (record { within = omega arith; inside = h }) (d .fit) b
+    (λ t k. getD-replicate planSize (i + t) 0 0 (omega arith)))
+
+pub none-laid : {m : List ℕ} → m ≡ replicate planSize 0 → Laid [] m
+none-laid e = record { fit = tt; is = e }
 
 -- one more part is laid, or one word stored
 pub lay : (p : Piece) {ps : List Piece} {m n : List ℕ} → Fits p → Laid ps m → n ≡ over m (p .at) (rowFrom 0 (p .width) (p .word)) → Laid (p ∷ ps) n
 lay p k d e =
     record {
-      base = d .base;
-      long = d .long;
       fit = (k, d .fit);
       is = e ∙ ap (λ (l : List ℕ). over l (p .at) (rowFrom 0 (p .width) (p .word))) (d .is);
     }
@@ -140,10 +155,10 @@ module _ (s : List ℕ) where
   rowPiece i f = record { at = i; room = 64; width = tOf s; word = f }
 
   abbrev pub losesPiece : Piece
-  losesPiece = rowPiece losesPart (λ t. sourcesIn s (exits s t))
+  losesPiece = rowPiece losesPart (losesOf s)
 
   abbrev pub gainsPiece : Piece
-  gainsPiece = rowPiece gainsPart (λ t. sourcesIn s (enters s t))
+  gainsPiece = rowPiece gainsPart (gainsOf s)
 
   abbrev pub delaysPiece : Piece
   delaysPiece = record { at = delaysPart; room = 64; width = 64; word = timerDelay s }
@@ -191,27 +206,3 @@ module _ (s : List ℕ) where
 
     pub hits-fit : Fits hitsPiece
     hits-fit = record { within = inputs-le s h; inside = omega arith }
-
-    -- LOSES and GAINS: their words by the mode sets themselves
-    exits-word : (t : ℕ) → exits s t % 2 ^ 32 ≡ exits s t
-    unfolding exits
-    exits-word t = mod-eq-of-lt (lt-of-lt-of-le (setOf-lt (nOf s) _) (pow-le-pow-right {n = 2} (omega arith) (n-le s (sound s h))))
-
-    enters-word : (t : ℕ) → enters s t % 2 ^ 32 ≡ enters s t
-    unfolding enters complete
-    enters-word t = mod-eq-of-lt (lt-of-lt-of-le (setOf-lt (nOf s) _) (pow-le-pow-right {n = 2} (omega arith) (n-le s (sound s h))))
-
-    changes-are : (sets at : ℕ) (g : ℕ → ℕ) (m : List ℕ) {n : List ℕ} → ((t : ℕ) → g t % 2 ^ 32 ≡ g t) → WordsAt m sets (tOf s) g
-        → n ≡ over m at (rowFrom 0 (tOf s) (changeOf s m sets))
-        → n ≡ over m at (rowFrom 0 (tOf s) (λ t. sourcesIn s (g t)))
-    changes-are sets at g m w p e =
-        e ∙ ap (over m at) (rowFrom-ext (changeOf s m sets) (λ t. sourcesIn s (g t)) 0 (tOf s)
-        (λ u a b. ap (sourcesIn s) (ap (λ (x : ℕ). x % 2 ^ 32) (p u (omega arith)) ∙ w u)))
-
-    pub loses-are : {m n : List ℕ} → Laid ends m → n ≡ over m losesPart (rowFrom 0 (tOf s) (changeOf s m exitsPart)) → n ≡ over m losesPart (rowFrom 0 (tOf s) (λ t. sourcesIn s (exits s t)))
-    loses-are {m} d e = changes-are exitsPart losesPart (exits s) m exits-word (laid-has 1 d tt) e
-
-    pub gains-are : {m n : List ℕ} → Laid (losesPiece ∷ ends) m
-        → n ≡ over m gainsPart (rowFrom 0 (tOf s) (changeOf s m entersPart))
-        → n ≡ over m gainsPart (rowFrom 0 (tOf s) (λ t. sourcesIn s (enters s t)))
-    gains-are {m} d e = changes-are entersPart gainsPart (enters s) m enters-word (laid-has 1 d tt) e

@@ -4,19 +4,25 @@ use mathlib.Core.Path.{_≡_, refl, sym, ap, ap₂, _∙_}
 use mathlib.Core.Logic.{⊎-elim}
 use mathlib.Core.Bool.{Bool, true, false, not, _&&_, _||_, cond}
 use mathlib.Core.List.{List}
-use Prim.Native.Nat.{ℕ, _<_}
+use Prim.Native.Nat.{ℕ, _+_, _≤_, _<_}
 use native.Mathlib.Nat.{eq-zero-or-pos, lt-of-le-of-lt}
 use native.Mathlib.Omega.{arith}
 use lib.Dec.{eqb, ltb}
+use lib.ListN.{length, set}
 use borrow.Author.Tests.{eq-eqb, lt-ltb, le-ltb}
 use Rattle.sets.specs.Sets.{has, union, minus, below}
 use Rattle.sets.proofs.Tests.{of-true}
 use Rattle.sets.proofs.Facts.{setOf-e}
-use Rattle.sets.proofs.Membership.{has-union, has-minus, has-below, below-lt, minus-le, has-setOf, setOf-ext}
+use Rattle.sets.proofs.Membership.{has-none, has-union, has-minus, has-below, below-lt, minus-le, has-setOf, setOf-ext}
+use Rattle.sets.proofs.Members.{Turn, without-it, without-other}
+use Rattle.rows.specs.Over.{over}
+use Rattle.meaning.specs.Lists.{rowFrom}
 use Rattle.meaning.specs.Sheet.{tOf}
 use Rattle.meaning.specs.Reaction.{isDelay, delay, isTimer}
-use Rattle.reaction.specs.Plan.{timers, timerDelay, eventsOnly, mixed}
-use Rattle.planner.specs.Parts.{isSure, sure}
+use Rattle.meaning.proofs.ListLaws.{rowFrom-ext}
+use Rattle.reaction.specs.Plan.{delaysPart, timers, timerDelay, eventsOnly, mixed}
+use Rattle.planner.specs.Parts.{WordsAt, isSure, sure}
+use Rattle.planner.proofs.PartLaws.{part-same, part-set}
 
 -- neither a timer nor a sure one, of a transition that is one of delay v or not (d), or has event terms alone (e)
 neither : (v : ℕ) (d e : Bool) → not (d && ltb 0 v || cond d (eqb v 0) e) ≡ (not d && not e)
@@ -38,13 +44,35 @@ module _ (s : List ℕ) where
       rw (er, ea, en, eb, ec)
       (setOf-ext (tOf s) (λ t. not (isDelay s t) && not (eventsOnly s t)) (lt-of-le-of-lt (minus-le (below (tOf s)) (union (timers s) (sure s))) (below-lt (tOf s))) has-mixed)
 
-  -- the delay of a timer, and of none
+  -- ---- the timers' delays
+
   pub timer-lt : {x : ℕ} (t : ℕ) → x ≡ timers s → has x t ≡ true → t < tOf s
   unfolding timers
   timer-lt t e h = setOf-e (tOf s) (isTimer s) t (of-true (ap (λ (y : ℕ). has y t) (sym e) ∙ h)) .0
 
-  pub timer-delay : {x : ℕ} (t : ℕ) → x ≡ timers s → has x t ≡ true → timerDelay s t ≡ delay s t
-  timer-delay t e h = rw (sym e, h)
+  -- word t of DELAYS while the timers of `rest` are to come
+  abbrev pub delaysBut : ℕ → ℕ → ℕ
+  delaysBut rest t = cond (has rest t) 0 (timerDelay s t)
 
-  pub delay-none : {x : ℕ} (t : ℕ) → x ≡ timers s → has x t ≡ false → timerDelay s t ≡ 0
-  delay-none t e h = rw (sym e, h)
+  pub delays-start : {x : ℕ} (l : List ℕ) → x ≡ timers s → delaysPart + 64 ≤ length l → WordsAt l delaysPart 64 (λ _. 0)
+      → l ≡ over l delaysPart (rowFrom 0 64 (delaysBut x))
+  delays-start l e h p = part-same l delaysPart 64 (delaysBut _) h (λ t k. p t k ∙ rw e (none (has (timers s) t) (delay s t)))
+    where
+      none : (b : Bool) (d : ℕ) → 0 ≡ cond b 0 (cond b d 0)
+      none true d = refl
+      none false d = refl
+
+  pub delays-turn : {x rest t r v : ℕ} (l : List ℕ) {m : List ℕ} → delaysPart + 64 ≤ length l → x ≡ timers s → Turn 64 rest t r → has x t ≡ true
+      → m ≡ over l delaysPart (rowFrom 0 64 (delaysBut rest)) → v ≡ delay s t
+      → set m (delaysPart + t) v ≡ over l delaysPart (rowFrom 0 64 (delaysBut r))
+  delays-turn {x} {rest} {t} {r} {v} l {m} h e u k p q =
+      ap₂ (λ (n : List ℕ) (y : ℕ). set n (delaysPart + t) y) p (q ∙ sym here)
+      ∙ part-set l delaysPart 64 (delaysBut rest) (delaysBut r) t h (u .lowest .small)
+      (λ j n. ap (λ (b : Bool). cond b 0 (timerDelay s j)) (sym (ap (λ (y : ℕ). has y j) (u .removed) ∙ without-other rest t j n)))
+    where
+      here : delaysBut r t ≡ delay s t
+      here = rw (ap (λ (y : ℕ). has y t) (u .removed) ∙ without-it rest t, ← e, k)
+
+  pub delays-done : {rest : ℕ} (l : List ℕ) → rest ≡ 0 → over l delaysPart (rowFrom 0 64 (delaysBut rest)) ≡ over l delaysPart (rowFrom 0 64 (timerDelay s))
+  delays-done {rest} l e =
+      ap (over l delaysPart) (rowFrom-ext (delaysBut rest) (timerDelay s) 0 64 (λ t a b. rw (e, has-none t)))

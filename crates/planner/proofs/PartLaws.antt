@@ -4,7 +4,6 @@ use mathlib.Core.Path.{_≡_, refl, sym, ap, _∙_}
 use mathlib.Core.Logic.{_⊎_, inl, inr}
 use mathlib.Core.List.{List, [], _∷_, _++_}
 use Prim.Native.Nat.{ℕ, _+_, _-_, _≤_, _<_}
-use native.Mathlib.Nat.{zero-add}
 use native.Mathlib.Decide.{decLe, decLt}
 use native.Mathlib.Omega.{arith}
 use lib.ListN.{length, getD, set, take, drop, length-append, length-set, List·getD-append}
@@ -94,6 +93,15 @@ module _ (l : List ℕ) (at w : ℕ) (f : ℕ → ℕ) (h : at + w ≤ length l)
           let j : at + (i - at) ≡ i = omega arith in
           rw j at (inside (i - at) k ∙ sym (part-in (i - at) k))
 
+-- a part laid over itself
+pub part-again : (l : List ℕ) (at w : ℕ) (f g : ℕ → ℕ) → at + w ≤ length l → over (over l at (rowFrom 0 w f)) at (rowFrom 0 w g) ≡ over l at (rowFrom 0 w g)
+part-again l at w f g h =
+    let m = over l at (rowFrom 0 w f) in
+    let long : length m ≡ length l = part-length l at w f h in
+    let k : at + w ≤ length m = omega arith in
+    part-is l at w g h (over m at (rowFrom 0 w g)) (part-length m at w g k ∙ long) (part-in m at w g k)
+    (λ i a. part-out m at w g k i a ∙ part-out l at w f h i a)
+
 -- a loop that lays a part: its start, and one turn
 module _ (l : List ℕ) (at : ℕ) (f : ℕ → ℕ) where
   pub part-none : l ≡ over l at (rowFrom 0 0 f)
@@ -149,14 +157,6 @@ parts-turn l at bt f g t {m} {x} {y} a b e p q =
 pub parts-done : (l : List ℕ) (at bt : ℕ) (f g : ℕ → ℕ) {m : List ℕ} (t : ℕ) {w : ℕ} → m ≡ over (over l at (rowFrom 0 t f)) bt (rowFrom 0 t g) → t ≡ w
     → m ≡ over (over l at (rowFrom 0 w f)) bt (rowFrom 0 w g)
 parts-done l at bt f g t e k = rw k at e
-
--- the same for a row at the front of a list
-pub front-turn : (l : List ℕ) (f : ℕ → ℕ) (t : ℕ) {m : List ℕ} {r : ℕ} → t < length l → m ≡ over l 0 (rowFrom 0 t f) → r ≡ f t
-    → set m t r ≡ over l 0 (rowFrom 0 (t + 1) f)
-front-turn l f t k e a = rw zero-add at (part-turn l 0 f t (rw zero-add k) e a)
-
-pub front-in : (l : List ℕ) (w : ℕ) (f : ℕ → ℕ) → w ≤ length l → (t : ℕ) → t < w → getD (over l 0 (rowFrom 0 w f)) t 0 ≡ f t
-front-in l w f h t k = rw zero-add at (part-in l 0 w f (rw zero-add h) t k)
 
 -- a loop that changes a part word by word: its start, and one turn
 pub part-same : (l : List ℕ) (at w : ℕ) (f : ℕ → ℕ) → at + w ≤ length l → WordsAt l at w f → l ≡ over l at (rowFrom 0 w f)

@@ -1,14 +1,15 @@
 -- What the parts of the plan are made from. Assumes nothing.
 use mathlib.Core.Path.{_≡_}
-use mathlib.Core.Bool.{Bool, cond}
+use mathlib.Core.Bool.{Bool, _||_, cond}
 use mathlib.Core.List.{List}
 use Prim.Native.Nat.{ℕ, _+_, _<_}
-use lib.Dec.{eqb}
+use lib.Dec.{eqb, ltb}
 use lib.ListN.{getD}
 use Rattle.sets.specs.Sets.{single, setOf}
 use Rattle.meaning.specs.Sheet.{tOf, meeting}
-use Rattle.meaning.specs.Reaction.{isDelay, delay}
-use Rattle.reaction.specs.Plan.{sourcesIn, eventsOnly}
+use Rattle.meaning.specs.Hierarchy.{exits, enters}
+use Rattle.meaning.specs.Reaction.{isDelay, delay, alternative}
+use Rattle.reaction.specs.Plan.{sourcesIn, noSets, eventsOnly}
 
 -- the w words of a list from a place on are f 0, f 1, ..
 abbrev pub WordsAt : List ℕ → ℕ → ℕ → (ℕ → ℕ) → Type 0
@@ -19,6 +20,13 @@ module _ (s : List ℕ) where
   abbrev pub fromOf : ℕ → ℕ
   fromOf m = sourcesIn s (single m)
 
+  -- word t of LOSES and of GAINS: the transitions whose source t exits, and enters
+  abbrev pub losesOf : ℕ → ℕ
+  losesOf t = sourcesIn s (exits s t)
+
+  abbrev pub gainsOf : ℕ → ℕ
+  gainsOf t = sourcesIn s (enters s t)
+
   -- an input set can trigger t by itself: t has delay 0, or event terms alone
   unfoldable pub isSure : ℕ → Bool
   isSure t = cond (isDelay s t) (eqb (delay s t) 0) (eventsOnly s t)
@@ -26,6 +34,14 @@ module _ (s : List ℕ) where
   unfoldable pub sure : ℕ
   sure = setOf (tOf s) isSure
 
+  -- the input set i triggers t, one of these, where its source is active: t has a delay, or its terms hold
+  unfoldable pub isHit : ℕ → ℕ → Bool
+  isHit t i = isDelay s t || ltb 0 (alternative s i noSets t)
+
 -- word t is the meeting mode of transition t
 unfoldable pub Meetings : List ℕ → List ℕ → Type 0
 Meetings s meets = (t : ℕ) → t < tOf s → getD meets t 0 ≡ meeting s t
+
+-- word m is the set of the transitions with meeting mode m
+unfoldable pub ByMeeting : List ℕ → List ℕ → Type 0
+ByMeeting s words = (m : ℕ) → m < 32 → getD words m 0 ≡ setOf (tOf s) (λ t. eqb (meeting s t) m)

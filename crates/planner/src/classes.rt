@@ -8,7 +8,7 @@ ghost use Rattle.meaning.specs.Lists.{rowFrom};
 ghost use Rattle.meaning.specs.Sheet.{tOf};
 ghost use Rattle.meaning.specs.Check.{sheetRefusal};
 ghost use Rattle.reaction.specs.Plan.{delaysPart, planSize, timers, timerDelay, mixed};
-ghost use Rattle.planner.specs.Parts.{isSure, sure};
+ghost use Rattle.planner.specs.Parts.{WordsAt, isSure, sure};
 use reaction::plan::DELAYS;
 use reaction::plan::Plan;
 use reaction::terms::delay;
@@ -70,26 +70,19 @@ pub fn mixed(sheet: &[u32], timing: u64, certain: u64) -> u64
     transitions::minus(below(transition_count(sheet)), timing | certain)
 }
 
-// The delay of a timer, else 0.
-fn timer_delay(sheet: &[u32], timing: u64, t: usize) -> u64
-    requires { ⌜ (sheetRefusal (now sheet) ≡ 0) × (timing ≡ timers (now sheet)) × (t < 64) ⌝ }
-    ensures { λ r. ⌜ r ≡ timerDelay (now (sheet .entry)) t ⌝ }
-{
-    if transitions::has(timing, t) {
-        return delay(sheet, t) as u64;
-    }
-    0
-}
-
-// DELAYS.
+// DELAYS: each timer's delay is stored.
 pub fn put_delays(sheet: &[u32], timing: u64, plan: &mut Plan)
-    requires { ⌜ (sheetRefusal (now sheet) ≡ 0) × (length (now plan) ≡ planSize) × (timing ≡ timers (now sheet)) ⌝ }
+    requires { ⌜ (sheetRefusal (now sheet) ≡ 0)
+        × (length (now plan) ≡ planSize)
+        × (timing ≡ timers (now sheet))
+        × WordsAt (now plan) delaysPart 64 (λ _. 0) ⌝ }
     ensures { λ _. ⌜ now (plan .exit)
         ≡ over (now (plan .entry)) delaysPart (rowFrom 0 64 (timerDelay (now (sheet .entry)))) ⌝ }
 {
-    let mut t = 0;
-    while t < 64 {
-        plan[DELAYS + t] = timer_delay(sheet, timing, t);
-        t += 1;
+    let mut rest = timing;
+    while rest != 0 {
+        let t = transitions::lowest(rest);
+        plan[DELAYS + t] = delay(sheet, t) as u64;
+        rest = transitions::without_lowest(rest);
     }
 }

@@ -6,8 +6,9 @@ ghost use Rattle.meaning.specs.Lists.{rowFrom};
 ghost use Rattle.meaning.specs.Sheet.{tOf};
 ghost use Rattle.meaning.specs.Check.{sheetRefusal};
 ghost use Rattle.meaning.specs.Hierarchy.{exits, enters};
-ghost use Rattle.hierarchy.specs.Inside.{Insides};
+ghost use Rattle.sheet.specs.Masks.{Children, Containers, Withins};
 ghost use Rattle.reaction.specs.Plan.{exitsPart, entersPart, planSize};
+ghost use Rattle.planner.specs.Parts.{Meetings};
 use hierarchy::transition::entered_by;
 use hierarchy::transition::exited_by;
 use reaction::plan::ENTERS;
@@ -16,8 +17,20 @@ use reaction::plan::Plan;
 use sheet::words::transition_count;
 
 // EXITS and ENTERS.
-pub fn put_ends(sheet: &[u32], inside: &[u32; 32], plan: &mut Plan)
-    requires { ⌜ (sheetRefusal (now sheet) ≡ 0) × (length (now plan) ≡ planSize) × Insides (now sheet) (now inside) ⌝ }
+pub fn put_ends(
+    sheet: &[u32],
+    children: &[u32; 32],
+    within: &[u32; 32],
+    containers: &[u32; 32],
+    meets: &[usize; 64],
+    plan: &mut Plan,
+)
+    requires { ⌜ (sheetRefusal (now sheet) ≡ 0)
+        × (length (now plan) ≡ planSize)
+        × Children (now sheet) (now children)
+        × Withins (now sheet) (now within)
+        × Containers (now sheet) (now containers)
+        × Meetings (now sheet) (now meets) ⌝ }
     ensures { λ _. ⌜ now (plan .exit)
         ≡ over
         (over (now (plan .entry)) exitsPart (rowFrom 0 (tOf (now (sheet .entry))) (exits (now (sheet .entry)))))
@@ -26,8 +39,9 @@ pub fn put_ends(sheet: &[u32], inside: &[u32; 32], plan: &mut Plan)
     let count = transition_count(sheet);
     let mut t = 0;
     while t < count {
-        plan[EXITS + t] = exited_by(sheet, inside, t) as u64;
-        plan[ENTERS + t] = entered_by(sheet, t) as u64;
+        let p = meets[t];
+        plan[EXITS + t] = exited_by(sheet, within, containers, p, t) as u64;
+        plan[ENTERS + t] = entered_by(sheet, children, within, containers, p, t) as u64;
         t += 1;
     }
 }

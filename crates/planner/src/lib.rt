@@ -1,7 +1,8 @@
 // The plan of a sheet, worked out once per call: each part is laid in place.
 ghost use mathlib.Core.Path.{_≡_};
+ghost use lib.ListN.{replicate};
 ghost use Rattle.meaning.specs.Check.{sheetRefusal};
-ghost use Rattle.reaction.specs.Plan.{Planned};
+ghost use Rattle.reaction.specs.Plan.{planSize, Planned};
 
 mod classes;
 mod conflicts;
@@ -10,36 +11,34 @@ mod hits;
 mod sources;
 
 use hierarchy::complete::start;
-use hierarchy::inside::insides;
-use reaction::plan::ENTERS;
-use reaction::plan::EXITS;
-use reaction::plan::GAINS;
-use reaction::plan::LOSES;
 use reaction::plan::MIXED;
 use reaction::plan::Plan;
-use reaction::plan::SIZE;
 use reaction::plan::START;
 use reaction::plan::TIMERS;
+use sheet::hierarchy::children;
+use sheet::hierarchy::containers;
+use sheet::within::within_each;
 
-// The plan of a sheet past 1 to 6.
-pub fn planned(sheet: &[u32]) -> Plan
-    requires { ⌜ sheetRefusal (now sheet) ≡ 0 ⌝ }
-    ensures { λ r. ⌜ Planned (now (sheet .entry)) r ⌝ }
+// The plan of a sheet past 1 to 6, put into words that are 0.
+pub fn put_plan(sheet: &[u32], plan: &mut Plan)
+    requires { ⌜ (sheetRefusal (now sheet) ≡ 0) × (now plan ≡ replicate planSize 0) ⌝ }
+    ensures { λ _. ⌜ Planned (now (sheet .entry)) (now (plan .exit)) ⌝ }
 {
-    let inside = insides(sheet);
+    let children = children(sheet);
+    let within = within_each(sheet);
+    let containers = containers(sheet);
+    let meets = conflicts::meetings(sheet, &containers);
     let classed = classes::classes_of(sheet);
     let timing = classed.timing;
     let certain = classed.certain;
-    let mut plan = [0u64; SIZE];
-    sources::put_from(sheet, &mut plan);
-    ends::put_ends(sheet, &inside, &mut plan);
-    sources::put_changes(sheet, &mut plan, EXITS, LOSES);
-    sources::put_changes(sheet, &mut plan, ENTERS, GAINS);
-    conflicts::put_conflicts(sheet, &inside, &mut plan);
-    classes::put_delays(sheet, timing, &mut plan);
-    hits::put_hits(sheet, certain, &mut plan);
+    sources::put_from(sheet, plan);
+    ends::put_ends(sheet, &children, &within, &containers, &meets, plan);
+    sources::put_loses(sheet, plan);
+    sources::put_gains(sheet, plan);
+    conflicts::put_conflicts(sheet, &meets, plan);
+    classes::put_delays(sheet, timing, plan);
+    hits::put_hits(sheet, certain, plan);
     plan[TIMERS] = timing;
     plan[MIXED] = classes::mixed(sheet, timing, certain);
-    plan[START] = start(sheet) as u64;
-    plan
+    plan[START] = start(sheet, &children) as u64;
 }

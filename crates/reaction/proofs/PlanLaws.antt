@@ -7,18 +7,16 @@ use Prim.Native.Nat.{ℕ, _+_, _%_, _^_, _<_}
 use native.Mathlib.Nat.{lt-of-le-of-lt, lt-of-lt-of-le, mod-eq-of-lt, pow-le-pow-right}
 use native.Mathlib.Omega.{arith}
 use lib.Dec.{T, eqb, eqb→eq, eqb-refl}
-use lib.ListN.{length, getD}
+use lib.ListN.{getD}
 use Rattle.sets.specs.Sets.{has, union, meet, single, members, someIn}
 use Rattle.sets.proofs.Tests.{bool-ext}
 use Rattle.sets.proofs.Facts.{has-lt, someIn-e, someIn-i}
 use Rattle.sets.proofs.Membership.{has-meet, has-single, has-setOf, setOf-lt, setOf-ext, setOf-same, meet-le}
 use Rattle.sets.proofs.Members.{fold}
 use Rattle.sets.proofs.Widths.{union-over}
-use Rattle.meaning.specs.Lists.{rowFrom}
 use Rattle.meaning.specs.Sheet.{nOf, tOf, source}
 use Rattle.meaning.specs.Hierarchy.{completedIn, complete}
 use Rattle.meaning.specs.Reaction.{isTimer, running}
-use Rattle.meaning.proofs.ListLaws.{rowFrom-ext, rowFrom-getD}
 use Rattle.meaning.proofs.SheetLaws.{sound, n-le}
 use Rattle.reaction.specs.Plan.{fromPart, startWord, FromPlanned, Planned, sourcesIn, timers}
 
@@ -72,7 +70,3 @@ start-word s plan p =
     rw (p .startAt)
     (mod-eq-of-lt
     (lt-of-lt-of-le (setOf-lt (nOf s) (λ m. completedIn s m (single 0) m)) (pow-le-pow-right {n = 2} (omega arith) (n-le s (sound s (p .passes))))))
-
--- the end of a loop that fills an array word by word with f 0, f 1, ..
-pub row-done : (f : ℕ → ℕ) (r : List ℕ) (w : ℕ) → length r ≡ w → ((u : ℕ) → u < w → getD r u 0 ≡ f u) → r ≡ rowFrom 0 w f
-row-done f r w n h = rw n at (rowFrom-getD r 0) ∙ rowFrom-ext (λ u. getD r u 0) f 0 w (λ u a b. h u (omega arith))

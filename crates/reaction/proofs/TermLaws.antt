@@ -5,13 +5,13 @@ use mathlib.Core.Logic.{_⊎_, inl, inr, ⊎-elim}
 use mathlib.Core.Bool.{Bool, true, false, _&&_, _||_, cond, and-true, and-assoc}
 use mathlib.Core.List.{List, [], _∷_, map}
 use Prim.Native.Nat.{ℕ, zero, suc, _+_, _-_, _*_, _^_, _≤_, _<_}
-use native.Mathlib.Nat.{le-of-suc-le-suc, lt-of-not-le}
+use native.Mathlib.Nat.{le-of-suc-le-suc, lt-of-not-le, sub-zero}
 use native.Mathlib.Numerals.{add-one}
 use native.Mathlib.Omega.{arith}
 use lib.Dec.{T, eqb, leb, ltb, eqb→eq, ltb→lt}
 use lib.Arith.{lt-of-le-ne}
 use lib.ListN.{getD}
-use borrow.Author.Tests.{eq-eqb, ne-eqb}
+use borrow.Author.Tests.{eq-eqb, ne-eqb, lt-ltb}
 use Rattle.sets.specs.Sets.{someIn}
 use Rattle.sets.proofs.Tests.{of-true, of-false, and-l, and-r, or-e, above-not}
 use Rattle.sets.proofs.Facts.{every-e}
@@ -45,6 +45,13 @@ kind-small s t j (suc (suc (suc (suc (suc (suc (suc zero))))))) a b d h p q r = 
 kind-small s t j (suc (suc (suc (suc (suc (suc (suc (suc c)))))))) a b d h p q r =
     absurd (of-false (kind-none s t j (suc (suc (suc (suc (suc (suc (suc (suc c)))))))) (omega arith)) h)
 
+-- a kind that speaks of events, other than "or"
+kind-event : (c : ℕ) → T (isEventKind c) → (c ≡ 7 → ⊥) → (c ≡ 1) ⊎ (c ≡ 2)
+unfolding isEventKind
+kind-event c h n =
+    ⊎-elim (λ k. ⊎-elim (λ e. inl (eqb→eq c 1 e)) (λ e. inr (eqb→eq c 2 e)) (or-e (eqb c 1) (eqb c 2) k)) (λ e. absurd (n (eqb→eq c 7 e)))
+    (or-e (eqb c 1 || eqb c 2) (eqb c 7) h)
+
 module _ (s : List ℕ) (h : sheetRefusal s ≡ 0) (t j : ℕ) (l : t < tOf s) (k : j < termCount s t) where
   met-at : (d : ℕ) → termKind s t j ≡ d → T (kindOk s t j d)
   unfolding termOk
@@ -66,9 +73,13 @@ module _ (s : List ℕ) (h : sheetRefusal s ≡ 0) (t j : ℕ) (l : t < tOf s) (
   value-small = kind-small s t j (termKind s t j) (k-le s (sound s h)) (n-le s (sound s h)) (t-le s (sound s h)) (met-at (termKind s t j) refl)
 
   -- the number of an event, and a mask
-  event-small : termKind s t j ≡ 2 → termValue s t j < 32
+  event-lt : (termKind s t j ≡ 1) ⊎ (termKind s t j ≡ 2) → termValue s t j < 6
   unfolding kindOk
-  event-small e = omega (arith, k-le s (sound s h), ltb→lt (termValue s t j) (kOf s) (met-at 2 e))
+  event-lt (inl e) = omega (arith, k-le s (sound s h), ltb→lt (termValue s t j) (kOf s) (met-at 1 e))
+  event-lt (inr e) = omega (arith, k-le s (sound s h), ltb→lt (termValue s t j) (kOf s) (met-at 2 e))
+
+  event-small : termKind s t j ≡ 2 → termValue s t j < 32
+  event-small e = omega (arith, event-lt (inr e))
 
   mask-lt : termKind s t j ≡ 3 → termValue s t j < 2 ^ nOf s
   unfolding kindOk
@@ -81,6 +92,13 @@ module _ (s : List ℕ) (h : sheetRefusal s ≡ 0) (t j : ℕ) (l : t < tOf s) (
         lt-of-le-ne (le-of-suc-le-suc (subst (λ (x : ℕ). x < 8) (sym e) kind-lt)) n,
         λ m. subst (λ (x : ℕ). x < 64) (sym f) (value-small (kind-pos d) (no 3 m) (no 7 n)),
       )
+
+  -- and a term that speaks of events only
+  pub event-asks : eventsOnly s t ≡ true → (c v : ℕ) → c ≡ termKind s t j → v ≡ termValue s t j → (c ≡ 7 → ⊥) → ((c ≡ 1) ⊎ (c ≡ 2)) × (v < 6)
+  unfolding eventsOnly
+  event-asks d c v e f n =
+      let m = kind-event c (subst (λ (x : ℕ). T (isEventKind x)) (sym e) (every-e (termCount s t) (λ u. isEventKind (termKind s t u)) (of-true d) j k)) n in
+      (m, subst (λ (x : ℕ). x < 6) (sym f) (event-lt (subst (λ (x : ℕ). (x ≡ 1) ⊎ (x ≡ 2)) e m)))
 
 -- where the words of term j stand, and how many terms there are
 module _ (s : List ℕ) (t at j : ℕ) (e : at ≡ offset s t) where
@@ -127,6 +145,50 @@ module _ (s f : List ℕ) (t : ℕ) where
   pub terms-end : (n j a : ℕ) (ok : Bool) → n ≤ j → left n j a ok ≡ cond ok a 0
   unfolding alternativeByFrom
   terms-end n j a ok l = let e : n - j ≡ 0 = omega arith in rw e
+
+  -- an alternative is counted from 1
+  number-pos : (a : ℕ) → ltb 0 (suc a) ≡ true
+  number-pos a = lt-ltb 0 (suc a) (omega arith)
+
+  -- whether some alternative holds does not hang on the number of the first, from 1 on
+  left-some : (w j a b : ℕ) (ok : Bool) → ltb 0 (alternativeByFrom s f t w j (suc a) ok) ≡ ltb 0 (alternativeByFrom s f t w j (suc b) ok)
+  unfolding alternativeByFrom
+  left-some zero j a b true = number-pos a ∙ sym (number-pos b)
+  left-some zero j a b false = refl
+  left-some (suc w) j a b ok =
+      go _ _ _ _ (eqb (termKind s t j) 7) ok (left-some w (suc j) (suc a) (suc b) true) (left-some w (suc j) a b (ok && holdsBy f (termKind s t j) (termValue s t j)))
+    where
+      go : (x y p q : ℕ) (o k : Bool) → ltb 0 x ≡ ltb 0 y → ltb 0 p ≡ ltb 0 q → ltb 0 (cond o (cond k (suc a) x) p) ≡ ltb 0 (cond o (cond k (suc b) y) q)
+      go x y p q true true next same = number-pos a ∙ sym (number-pos b)
+      go x y p q true false next same = next
+      go x y p q false k next same = same
+
+  -- some alternative holds: one before this (x), or this one, whose terms before j hold or not (ok), or a later one
+  abbrev pub someFrom : ℕ → ℕ → Bool → Bool → Bool
+  someFrom n j x ok = x || ltb 0 (left n j 1 ok)
+
+  pub someFrom-start : someFrom (termCount s t) 0 false true ≡ ltb 0 (alternativeBy s f t)
+  unfolding alternativeBy
+  someFrom-start = rw sub-zero
+
+  pub someFrom-or : (n j : ℕ) (x ok : Bool) → j < n → termKind s t j ≡ 7 → someFrom n (j + 1) (x || ok) true ≡ someFrom n j x ok
+  someFrom-or n j x ok l e = go x ok
+    where
+      go : (y k : Bool) → someFrom n (j + 1) (y || k) true ≡ someFrom n j y k
+      go true k = refl
+      go false true = sym (ap (ltb 0) (or-found n j 1 true l e refl))
+      go false false = left-some (n - (j + 1)) (j + 1) 0 1 true ∙ ap (ltb 0) (or-next n j 1 false l e refl)
+
+  pub someFrom-term : (n j : ℕ) (x ok r : Bool) → j < n → (termKind s t j ≡ 7 → ⊥) → r ≡ holdsBy f (termKind s t j) (termValue s t j)
+      → someFrom n (j + 1) x (ok && r) ≡ someFrom n j x ok
+  someFrom-term n j x ok r l e h = ap (λ (y : ℕ). x || ltb 0 y) (term-next n j 1 ok r l e h)
+
+  pub someFrom-end : (n j : ℕ) (x ok : Bool) → n ≤ j → someFrom n j x ok ≡ (x || ok)
+  someFrom-end n j x ok l = ap (λ (y : ℕ). x || ltb 0 y) (terms-end n j 1 ok l) ∙ ap (λ (y : Bool). x || y) (go ok)
+    where
+      go : (k : Bool) → ltb 0 (cond k 1 0) ≡ k
+      go true = refl
+      go false = refl
 
 -- ---- the kinds of a term that speak of events
 

@@ -1,19 +1,18 @@
 -- The loop that finds the due timers of a set: the set built so far, and the number that it makes. Assumes nothing.
-use mathlib.Core.Path.{_≡_, refl, sym, ap, ap₂, _∙_, subst}
+use mathlib.Core.Path.{_≡_, refl, sym, ap, _∙_, subst}
 use mathlib.Core.Bool.{Bool, true, false}
 use mathlib.Core.List.{List}
 use Prim.Native.Nat.{ℕ, suc, _+_, _*_, _^_, _≤_, _<_}
 use native.Mathlib.Nat.{add-zero, zero-add, zero-mul, one-mul, mul-add, mul-one, mul-assoc, mul-zero, pow-suc, pow-le-pow-right, lt-of-lt-of-le}
 use native.Mathlib.Numerals.{add-one}
 use native.Mathlib.Omega.{arith}
-use lib.Bits.{or-zero-r}
 use lib.ListN.{length}
 use Rattle.sets.specs.Sets.{has, union, minus, digit, those, members, size}
 use Rattle.sets.proofs.Tests.{is-true, of-true}
 use Rattle.sets.proofs.Facts.{size-le}
 use Rattle.sets.proofs.Membership.{has-those}
 use Rattle.sets.proofs.Members.{Turn, members-turn, members-none}
-use Rattle.sets.proofs.Those.{Subset, subset-turn, those-start, those-add, those-skip, those-done}
+use Rattle.sets.proofs.Those.{Subset, subset-turn, those-start, those-tested, those-done}
 use Rattle.meaning.specs.TableRun.{dueNumber}
 
 module _ (timers : ℕ) (p : ℕ → Bool) where
@@ -66,11 +65,6 @@ module _ (timers : ℕ) (p : ℕ → Bool) where
     unfolding dueNumber
     number-turn = ap (λ (l : List ℕ). dueNumber l all) (members-turn u)
 
-    built-turn : (b : Bool) → p t ≡ b → union set (digit b * 2 ^ t) ≡ minus all rest′
-    unfolding digit
-    built-turn true e = ap₂ union (c .built) (one-mul (2 ^ t)) ∙ those-add timers p u (c .part) e
-    built-turn false e = ap₂ union (c .built) (zero-mul (2 ^ t)) ∙ or-zero-r (minus all rest) ∙ those-skip timers p u e
-
     pub number-small : number + digit (p t) * 2 ^ place < 2 ^ 64
     number-small =
         lt-of-lt-of-le (fewer (p t) number (2 ^ place) (c .small))
@@ -84,7 +78,7 @@ module _ (timers : ℕ) (p : ℕ → Bool) where
         record {
           fits = u .fits;
           part = subset-turn timers u (c .part);
-          built = built-turn (p t) refl;
+          built = those-tested timers p u (c .part) (c .built) refl refl;
           small = rw double (fewer (p t) number (2 ^ place) (c .small));
           room = omega (arith, c .room, size-turn);
           sum = rw double (more (p t) number (2 ^ place) (dueNumber (members 64 rest′) all) ∙ rw (← due-there, ← number-turn) (c .sum));

@@ -6,3 +6,4 @@ pub mod Quantifiers
 pub mod Those
 pub mod Loops
 pub mod Widths
+pub mod Highest

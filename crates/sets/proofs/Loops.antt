@@ -3,17 +3,17 @@
 use mathlib.Core.Path.{_≡_, refl, sym, ap, ap₂, _∙_}
 use mathlib.Core.Bool.{Bool, true, false, not, _&&_, and-assoc, and-comm}
 use mathlib.Core.List.{List}
-use Prim.Native.Nat.{ℕ, _+_, _*_, _^_, _≤_, _<_}
+use Prim.Native.Nat.{ℕ, zero, suc, _+_, _*_, _^_, _≤_, _<_}
 use native.Mathlib.Nat.{le-antisymm, one-mul, zero-mul}
 use native.Mathlib.Numerals.{add-one}
 use native.Mathlib.Decide.{ℕ-discrete}
 use native.Mathlib.Omega.{arith}
 use lib.Bits.{or-zero-r}
 use lib.Dec.{ltb, ltb→lt}
-use lib.ListN.{length, getD, set}
+use lib.ListN.{length, getD, set, replicate}
 use lib.Seq.{getD-set-same, getD-set-other}
 use borrow.Author.Tests.{not-true, not-false}
-use Rattle.sets.specs.Sets.{union, single, digit, setOf, some, every}
+use Rattle.sets.specs.Sets.{has, union, single, digit, setOf, some, every}
 use Rattle.sets.proofs.Tests.{is-true, is-false, of-true, of-false, and-r}
 use Rattle.sets.proofs.Membership.{setOf-add, setOf-skip}
 use Rattle.sets.proofs.Facts.{some-i, every-e}
@@ -96,6 +96,12 @@ module _ (a b f : Bool) where
 pub and-last : (a f : Bool) (i n : ℕ) → f ≡ (a && ltb i n) → f ≡ true → i < n
 and-last a f i n h k = ltb→lt i n (and-r a (ltb i n) (of-true (sym h ∙ k)))
 
+-- ---- a list of zeros
+pub getD-zeros : (n i : ℕ) → getD {A = ℕ} (replicate n 0) i 0 ≡ 0
+getD-zeros zero i = refl
+getD-zeros (suc n) zero = refl
+getD-zeros (suc n) (suc i) = getD-zeros n i
+
 -- ---- a list with word i stored: its word u is the stored one, or the one that was there
 pub set-word : (l : List ℕ) (i v u : ℕ) {x : ℕ} → i < length l → (u ≡ i → v ≡ x) → ((u ≡ i → ⊥) → getD l u 0 ≡ x) → getD (set l i v) u 0 ≡ x
 set-word l i v u {x} b f g = go (ℕ-discrete u i)
@@ -103,6 +109,14 @@ set-word l i v u {x} b f g = go (ℕ-discrete u i)
     go : Dec (u ≡ i) → getD (set l i v) u 0 ≡ x
     go (yes e) = ap (λ (j : ℕ). getD (set l i v) j 0) e ∙ getD-set-same l i v 0 b ∙ f e
     go (no e) = getD-set-other l i u v 0 e ∙ g e
+
+-- the same of bit b of word u
+pub set-word-has : (l : List ℕ) (i v u b : ℕ) {x : Bool} → i < length l → (u ≡ i → has v b ≡ x) → ((u ≡ i → ⊥) → has (getD l u 0) b ≡ x) → has (getD (set l i v) u 0) b ≡ x
+set-word-has l i v u b {x} room f g = go (ℕ-discrete u i)
+  where
+    go : Dec (u ≡ i) → has (getD (set l i v) u 0) b ≡ x
+    go (yes e) = ap (λ (j : ℕ). has (getD (set l i v) j 0) b) e ∙ ap (λ (w : ℕ). has w b) (getD-set-same l i v 0 room) ∙ f e
+    go (no e) = ap (λ (w : ℕ). has w b) (getD-set-other l i u v 0 e) ∙ g e
 
 -- one turn of a loop that fills a list word by word with f 0, f 1, ..
 pub row-turn : (f : ℕ → ℕ) (r : List ℕ) (t : ℕ) {v : ℕ} → t < length r → ((u : ℕ) → u < t → getD r u 0 ≡ f u) → v ≡ f t

@@ -10,10 +10,10 @@ use native.Mathlib.Omega.{arith}
 use lib.Dec.{T, T-not, not-T, eqb, eqb→eq, eqb-refl}
 use lib.ListN.{length}
 use borrow.Author.Tests.{eq-eqb, ne-eqb}
-use Rattle.sets.specs.Sets.{has, union, meet, minus, single, meets, some, every, someIn, everyIn, members, membersFrom, prepend, size, lowest}
-use Rattle.sets.proofs.Tests.{is-true, is-false, of-true, of-false, and-l, and-r, bool-ext}
-use Rattle.sets.proofs.Membership.{ext, has-none, has-meet, has-union, has-single, has-minus, single-lt, meet-le, minus-le}
-use Rattle.sets.proofs.Facts.{some-e, some-i, someIn-e, someIn-i, every-e, every-i, everyIn-e, everyIn-i}
+use Rattle.sets.specs.Sets.{has, union, meet, minus, single, meets, setOf, some, every, someIn, everyIn, members, membersFrom, prepend, size, lowest}
+use Rattle.sets.proofs.Tests.{is-true, is-false, of-true, of-false, and-l, and-r, and-i, bool-ext}
+use Rattle.sets.proofs.Membership.{ext, has-none, has-meet, has-union, has-single, has-minus, has-setOf, setOf-lt, single-lt, meet-le, minus-le}
+use Rattle.sets.proofs.Facts.{setOf-i, some-e, some-i, someIn-e, someIn-i, every-e, every-i, everyIn-e, everyIn-i}
 use Rattle.sets.proofs.Members.{Turn, Lowest, fold, lowest-member, empty, without-other, members-lowest, members-none, minus-member}
 
 -- ---- some number below n has p
@@ -23,6 +23,25 @@ some-none n p e i l = is-false (p i) (λ h. of-false e (some-i n p i l h))
 
 pub some-false : (n : ℕ) (p : ℕ → Bool) → ((i : ℕ) → i < n → p i ≡ false) → some n p ≡ false
 some-false n p e = is-false (some n p) (λ h. let r = some-e n p h in of-false (e (r .0) (r .1)) (r .2))
+
+-- a set by a test is not empty
+pub setOf-some : (n : ℕ) (p : ℕ → Bool) → not (eqb (setOf n p) 0) ≡ some n p
+setOf-some n p = go (some n p) refl
+  where
+    go : (b : Bool) → some n p ≡ b → not (eqb (setOf n p) 0) ≡ b
+    go true e =
+        let r = some-e n p (of-true e) in
+        is-true (not (eqb (setOf n p) 0)) (not-T (eqb (setOf n p) 0) (λ z. of-false (has-none (r .0)) (subst (λ (x : ℕ). T (has x (r .0))) (eqb→eq (setOf n p) 0 z) (setOf-i n p (r .0) (r .1) (r .2)))))
+    go false e = ap not (eq-eqb (setOf n p) 0 (empty n (setOf-lt n p) (λ i l. has-setOf n p i l ∙ some-none n p e i l)))
+
+-- the number k below n has p
+pub some-at : (n k : ℕ) (p : ℕ → Bool) → k < n → some n (λ i. p i && eqb k i) ≡ p k
+some-at n k p l =
+    bool-ext (some n (λ i. p i && eqb k i)) (p k)
+    (λ h.
+    let r = some-e n (λ i. p i && eqb k i) h in
+    subst (λ (i : ℕ). T (p i)) (sym (eqb→eq k (r .0) (and-r (p (r .0)) (eqb k (r .0)) (r .2)))) (and-l (p (r .0)) (eqb k (r .0)) (r .2)))
+    (λ h. some-i n (λ i. p i && eqb k i) k l (and-i (p k) (eqb k k) h (eqb-refl k)))
 
 pub some-same : (n : ℕ) (p q : ℕ → Bool) → ((i : ℕ) → i < n → p i ≡ q i) → some n p ≡ some n q
 unfolding some

@@ -1,14 +1,15 @@
 -- A loop over the members of a set that builds the set of those with p, and the number of a member in the order. Assumes nothing.
 use mathlib.Core.Path.{_≡_, refl, sym, ap, ap₂, _∙_, subst}
 use mathlib.Core.Bool.{Bool, true, false, not, _&&_, _||_, and-true, and-false, or-false, or-true}
-use Prim.Native.Nat.{ℕ, zero, suc, _+_, _-_, _^_, _≤_, _<_, zero-le, suc-le-suc}
-use native.Mathlib.Nat.{not-suc-le-zero, le-of-suc-le-suc, le-refl, lt-of-le-of-lt, add-zero, sub-zero, zero-add, sub-self}
+use Prim.Native.Nat.{ℕ, zero, suc, _+_, _-_, _*_, _^_, _≤_, _<_, zero-le, suc-le-suc}
+use native.Mathlib.Nat.{not-suc-le-zero, le-of-suc-le-suc, le-refl, lt-of-le-of-lt, add-zero, sub-zero, zero-add, sub-self, one-mul, zero-mul}
 use native.Mathlib.Decide.{ℕ-discrete}
 use native.Mathlib.Omega.{arith}
+use lib.Bits.{or-zero-r}
 use lib.Dec.{T}
 use lib.ListN.{length, getD}
 use borrow.Author.Tests.{eq-eqb, ne-eqb}
-use Rattle.sets.specs.Sets.{has, union, minus, single, those, members, membersFrom, prepend, size}
+use Rattle.sets.specs.Sets.{has, union, minus, single, digit, those, members, membersFrom, prepend, size}
 use Rattle.sets.proofs.Tests.{is-true, of-true, of-false, and-l}
 use Rattle.sets.proofs.Membership.{has-none, has-above, has-union, has-minus, has-single, union-lt, single-lt, minus-le, lt-of-members, ext}
 pub use Rattle.sets.proofs.Membership.{has-those, those-lt, those-same}
@@ -106,6 +107,17 @@ module _ {w s t r : ℕ} (all : ℕ) (p : ℕ → Bool) (u : Turn w s t r) where
 
   pub those-passed : {b : Bool} {a y : ℕ} → a ≡ minus (those w all p) s → b ≡ p t → b ≡ false → y ≡ a → y ≡ minus (those w all p) r
   those-passed e h v c = c ∙ e ∙ those-skip all p u (sym h ∙ v)
+
+  -- or added as the test's digit at its place
+  pub those-tested : {b : Bool} {a x : ℕ} → Subset s all → a ≡ minus (those w all p) s → x ≡ digit b * 2 ^ t → b ≡ p t
+      → union a x ≡ minus (those w all p) r
+  unfolding digit
+  those-tested {b} i e k h = ap₂ union e k ∙ at b (sym h)
+    where
+      at : (c : Bool) → p t ≡ c → union (minus (those w all p) s) (digit c * 2 ^ t) ≡ minus (those w all p) r
+      at true q = ap (union (minus (those w all p) s)) (one-mul (2 ^ t)) ∙ those-add all p u i q
+      at false q =
+          ap (union (minus (those w all p) s)) (zero-mul (2 ^ t)) ∙ or-zero-r (minus (those w all p) s) ∙ those-skip all p u q
 
 -- ---- the member of number i, counted from 0, is the one with i members below it
 

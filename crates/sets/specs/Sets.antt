@@ -1,7 +1,7 @@
 -- Sets of small numbers as words: bit i of the number s says whether i is in the set s. A width w bounds the numbers that
 -- are looked at; no definition fixes it. Assumes nothing.
 use Prim.Native.Nat.{ℕ, zero, suc, _+_, _-_, _*_, _/_, _%_, _^_}
-use mathlib.Core.Bool.{Bool, true, false, not, _&&_, _||_}
+use mathlib.Core.Bool.{Bool, true, false, not, _&&_, _||_, cond}
 use mathlib.Core.List.{List, [], _∷_}
 use lib.Dec.{eqb}
 use lib.ListN.{length, getD}
@@ -73,6 +73,15 @@ size w s = length (members w s)
 unfoldable pub lowest : ℕ → ℕ → ℕ
 unfolding members
 lowest w s = getD (members w s) 0 w
+
+-- the highest number below n that has p; d if none does
+unfoldable pub last : (ℕ → Bool) → ℕ → ℕ → ℕ
+last p d zero = d
+last p d (suc n) = let r = last p d n in cond (p n) n r
+
+-- the highest member of s below w; 0 if there is none
+abbrev pub highest : ℕ → ℕ → ℕ
+highest w s = last (has s) 0 w
 
 -- some number below n has p; every number below n has p
 unfoldable pub some : ℕ → (ℕ → Bool) → Bool

@@ -2,7 +2,7 @@
 ghost use mathlib.Core.Path.{_≡_};
 ghost use Prim.Native.Nat.{_<_, _≤_};
 ghost use lib.Dec.{eqb};
-ghost use Rattle.sets.specs.Sets.{has, minus, meets, single, below, size, lowest, everyIn};
+ghost use Rattle.sets.specs.Sets.{has, minus, meets, single, below, size, lowest, highest, everyIn};
 
 // Mode m is in the set.
 pub fn has(set: u32, m: usize) -> bool
@@ -40,6 +40,14 @@ pub fn lowest(set: u32) -> usize
     ensures { λ r. ⌜ r ≡ lowest 32 set ⌝ }
 {
     u32::trailing_zeros(set) as usize
+}
+
+// The highest member.
+pub fn highest(set: u32) -> usize
+    requires { ⌜ 0 < set ⌝ }
+    ensures { λ r. ⌜ r ≡ highest 32 set ⌝ }
+{
+    (31 - u32::leading_zeros(set)) as usize
 }
 
 // The set without its lowest member.

@@ -1,3 +1,6 @@
 pub mod SheetTestLaws
-pub mod Climb
+pub mod MaskLaws
+pub mod Passes
+pub mod ContainmentLaws
+pub mod EndsLaws
 pub mod Past

@@ -1,5 +1,5 @@
--- The sheet's tests one by one: what the head and the pairs say once they have passed, and what each test comes to where its
--- first parts have. Assumes nothing.
+-- The sheet's tests one by one: what the head, the mode rows and the pairs say once they have passed, and what each test comes to
+-- where its first parts have. Assumes nothing.
 use mathlib.Core.Path.{_≡_, refl, sym, ap}
 use mathlib.Core.Logic.{⊎-elim}
 use mathlib.Core.Bool.{Bool, false, not, _&&_, and-assoc, and-true}
@@ -17,10 +17,10 @@ use Rattle.sets.proofs.Tests.{of-true, and-l, and-r, bool-ext}
 use Rattle.sets.proofs.Facts.{every-e}
 use Rattle.meaning.specs.Lists.{allOf}
 use Rattle.meaning.specs.Sheet.{nOf, kOf, tOf, kind, offset, recordLength, endBefore, source, target, termCount, termKind, termValue, contains, meeting}
-use Rattle.meaning.specs.Check.{headOk, pairOk, pairsOk, endOk, kindOk, termOk}
+use Rattle.meaning.specs.Check.{headOk, modeOk, modesOk, pairOk, pairsOk, endOk, kindOk, termOk}
 use Rattle.meaning.proofs.ListLaws.{allOf-e, steps-le}
-use Rattle.meaning.proofs.SheetLaws.{kind-none}
-use Rattle.sheet.specs.Reading.{Record, Term}
+use Rattle.meaning.proofs.SheetLaws.{Rooted, rooted, kind-none}
+use Rattle.sheet.specs.Reading.{Record, Term, Tree}
 
 -- ---- the head
 
@@ -46,6 +46,12 @@ unfolding headOk allOf
 headOk-is s l n m k t =
     rw (le-leb 3 (length s) l, le-leb 1 (nOf s) n, le-leb (nOf s) 32 m, le-leb (kOf s) 6 k, le-leb (tOf s) 64 t)
     (and-true (leb (3 + 3 * nOf s + 2 * tOf s) (length s)))
+
+-- ---- the mode rows: a parent has a lower number
+
+pub rooted-tree : {s : List ℕ} → Tree s → Rooted s
+unfolding modesOk
+rooted-tree {s} r = rooted s (head-of s (r .head) .n-pos) (every-e (nOf s) (modeOk s) (r .modes))
 
 -- ---- the pairs: the records follow one another, so that each lies within the sheet
 

@@ -8,6 +8,7 @@ pub mod hierarchy;
 mod modes;
 mod pairs;
 mod terms;
+pub mod within;
 pub mod words;
 
 use meaning::refusal::Refusal;

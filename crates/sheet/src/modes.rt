@@ -5,7 +5,9 @@ ghost use lib.Dec.{T, eqb, ltb};
 ghost use Rattle.sets.specs.Sets.{some};
 ghost use Rattle.meaning.specs.Sheet.{nOf, kind, parent, first, isChild};
 ghost use Rattle.meaning.specs.Check.{headOk, modeOk, modesOk};
+ghost use Rattle.sheet.specs.Masks.{Children};
 ghost use Rattle.sheet.specs.Reading.{Row};
+use super::hierarchy::children;
 use super::words::first;
 use super::words::is_child;
 use super::words::kind;
@@ -13,19 +15,11 @@ use super::words::mode_count;
 use super::words::parent;
 
 // Some mode is a child of mode m.
-fn has_child(sheet: &[u32], m: usize) -> bool
-    requires { ⌜ T (headOk (now sheet)) ⌝ }
+fn has_child(sheet: &[u32], children: &[u32; 32], m: usize) -> bool
+    requires { ⌜ Row (now sheet) m × Children (now sheet) (now children) ⌝ }
     ensures { λ r. ⌜ r ≡ some (nOf (now (sheet .entry))) (isChild (now (sheet .entry)) m) ⌝ }
 {
-    let n = mode_count(sheet);
-    let mut c = 0;
-    while c < n {
-        if is_child(sheet, m, c) {
-            return true;
-        }
-        c += 1;
-    }
-    false
+    children[m] != 0
 }
 
 // The parent of mode m: of the root 0, of another mode a lower one that is not atomic.
@@ -58,15 +52,15 @@ fn first_ok(sheet: &[u32], m: usize) -> bool
     c == 0
 }
 
-fn mode_ok(sheet: &[u32], m: usize) -> bool
-    requires { ⌜ Row (now sheet) m ⌝ }
+fn mode_ok(sheet: &[u32], children: &[u32; 32], m: usize) -> bool
+    requires { ⌜ Row (now sheet) m × Children (now sheet) (now children) ⌝ }
     ensures { λ r. ⌜ r ≡ modeOk (now (sheet .entry)) m ⌝ }
 {
     let k = kind(sheet, m);
     if 2 < k || !parent_ok(sheet, m) || !first_ok(sheet, m) {
         return false;
     }
-    k == 0 || has_child(sheet, m)
+    k == 0 || has_child(sheet, children, m)
 }
 
 // Every mode row is sound.
@@ -75,9 +69,10 @@ pub fn modes_ok(sheet: &[u32]) -> bool
     ensures { λ r. ⌜ r ≡ modesOk (now (sheet .entry)) ⌝ }
 {
     let n = mode_count(sheet);
+    let children = children(sheet);
     let mut m = 0;
     while m < n {
-        if !mode_ok(sheet, m) {
+        if !mode_ok(sheet, &children, m) {
             return false;
         }
         m += 1;

@@ -18,8 +18,9 @@ ghost use Rattle.simulator.specs.Runs.{ranOf};
 use super::state::state_ok;
 use meaning::refusal::Refusal;
 use meaning::refusal::number;
-use planner::planned;
+use planner::put_plan;
 use reaction::plan::Plan;
+use reaction::plan::SIZE;
 use reaction::plan::TIMERS;
 use reaction::plan::from_set;
 use reaction::plan::timer_delays;
@@ -140,7 +141,8 @@ pub fn run(sheet: &[u32], state: State, inputs: &[u32], out: &mut [u32]) -> Ran
     if number(why) != 0 {
         return stops(state, why);
     }
-    let plan = planned(sheet);
+    let mut plan = [0u64; SIZE];
+    put_plan(sheet, &mut plan);
     let delays = timer_delays(sheet, &plan);
     if !state_ok(sheet, &plan, &delays, state) {
         return stops(state, Refusal::State);

@@ -45,8 +45,36 @@ fn waiting() -> Vec<u32> {
     d.words()
 }
 
+// 32 modes in one chain: serial mode i has serial mode i + 1 and an atomic mode within it. 64 timers go from each atomic mode to
+// the four above it, and from the lower ones to the next below: their meeting modes are up to 15 levels apart.
+fn one_chain() -> Vec<u32> {
+    let inner = |i: u32| if i == 0 { 0 } else { 2 * i - 1 };
+    let atom = |i: u32| if i < 15 { 2 * i + 2 } else { 31 };
+    let mut words = vec![32, 0, 64, 1, 0, 1];
+    for i in 1..=15 {
+        words.extend([1, inner(i - 1), if i < 15 { inner(i + 1) } else { atom(i) }]);
+        words.extend([0, inner(i - 1), 0]);
+    }
+    words.extend([0, inner(15), 0]);
+    let mut records = vec![];
+    for i in 0..16 {
+        for up in 1..=i.min(4) {
+            records.push([atom(i), atom(i - up), 0, up + i]);
+        }
+        if (5..15).contains(&i) {
+            records.push([atom(i), atom(i + 1), 0, 3]);
+        }
+    }
+    assert_eq!(records.len(), 64);
+    let at = words.len() as u32 + 2 * 64;
+    words.extend((0..64).flat_map(|t| [at + 4 * t, 4]));
+    words.extend(records.concat());
+    words
+}
+
 // Rows that show the loss of what no contract sees: the hints of listed sets, compile on rings; the plan's hits, sheet run and
-// compile on event rings; the test for a tick that stays in its block, table run on the chart that waits.
+// compile on event rings; the test for a tick that stays in its block, table run on the chart that waits; work that goes by pairs of
+// transitions or by climbing from mode to mode, check and plan on the one chain.
 pub fn charts(large: bool) -> Vec<(&'static str, Vec<u32>)> {
     let example = vec![3, 1, 2, 1, 0, 1, 0, 0, 0, 0, 0, 0, 16, 4, 20, 4, 1, 2, 1, 0, 2, 1, 0, 2];
     let mut charts = vec![
@@ -57,6 +85,7 @@ pub fn charts(large: bool) -> Vec<(&'static str, Vec<u32>)> {
         ("timer rings, k = 0", g::timer_rings(&[4, 4, 4, 4, 4, 3], 0).words()),
         ("timer rings, k = 3", g::timer_rings(&[4, 4, 4, 4, 4, 3], 3).words()),
         ("waiting, k = 0", waiting()),
+        ("one chain, k = 0", one_chain()),
     ];
     if large {
         charts.push(("timer rings, k = 6", g::timer_rings(&[4, 4, 4, 4, 4, 3], 6).words()));

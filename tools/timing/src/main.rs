@@ -1,4 +1,4 @@
-// timing [SECONDS] [large]: compile, table run, sheet run and milliseconds, ours beside the hand-optimised Rust version, in turns
+// timing [SECONDS] [large]: compile, table run, sheet run, what a call works out before its first tick, masks and milliseconds, ours beside the hand-optimised Rust version, in turns
 // on the same sheets, inputs and buffers (warm, not cleared). Every word of table, work list and output is compared first. With
 // BEFORE_DIR set at build, our operations as they were at an earlier commit are timed in the same turns; with MODEL_DIR, the
 // sheet run of the unproved model of patterns/code.
@@ -10,6 +10,7 @@ mod milliseconds;
 #[cfg(model)]
 mod model;
 mod ours;
+mod within;
 
 use modechart::rng::Rng;
 use modechart::*;
@@ -17,6 +18,9 @@ use std::hint::black_box;
 use std::time::Instant;
 
 const TURNS: usize = 8;
+
+// Calls timed together where one takes less than the clock can tell.
+pub const CALLS: usize = 2000;
 
 fn best(budget: f64, mut f: impl FnMut()) -> f64 {
     let start = Instant::now();
@@ -157,10 +161,20 @@ fn time_table_runs(c: &Chart, budget: f64) {
     print_row(c.name, "layout check, M words/s", &versions, c.table.len() as f64 / 1e6, &checks);
 }
 
+// Ticks per second, and runs without a tick: what a call works out before its first tick, the sheet's check and its plan.
 fn time_sheet_runs(c: &Chart, budget: f64) {
     let versions = sheet_runs();
     let t = run_times(&versions, &c.sheet, &c.inputs, budget);
     print_row(c.name, "sheet run, M ticks/s", &versions, c.inputs.len() as f64 / 1e6, &t);
+    let before = empty_run_times(&versions, &c.sheet, budget);
+    print_row(c.name, "check and plan, M/s", &versions, CALLS as f64 / 1e6, &before);
+}
+
+// The best time of many runs without a tick, by turns.
+fn empty_run_times(versions: &[Version<Run>], sheet: &[u32], budget: f64) -> Vec<f64> {
+    let mut turns: Vec<_> = versions.iter()
+        .map(|v| || for _ in 0..CALLS { black_box((v.call)(black_box(sheet), &[], &mut [])); }).collect();
+    by_turns(budget, &mut turns.iter_mut().map(|f| f as &mut dyn FnMut()).collect::<Vec<_>>())
 }
 
 fn main() {
@@ -170,6 +184,7 @@ fn main() {
         let c = compiled(name, sheet, budget);
         time_table_runs(&c, budget);
         time_sheet_runs(&c, budget);
+        within::time_masks(c.name, &c.sheet, budget);
     }
     milliseconds::time_conversions(budget);
 }

@@ -39,6 +39,18 @@ compile-requires c κs = search needs
 next-requires-3 : tie.Need-next-requires-3
 next-requires-3 c κs = search needs
 
+slice-reshare-prefix-masks : tie.Need-slice-reshare-prefix-masks
+slice-reshare-prefix-masks c = search needs
+
+slice-aggregate-masks : tie.Need-slice-aggregate-masks
+slice-aggregate-masks c = simp length-take (search needs)
+
+masks-requires : tie.Need-masks-requires
+masks-requires c κs = search needs
+
+next-requires-4 : tie.Need-next-requires-4
+next-requires-4 c κs = search needs
+
 answer-table-requires : tie.Need-answer-table-requires
 answer-table-requires c κs = search needs
 
@@ -67,7 +79,13 @@ same-length-5 : tie.Need-same-length-5
 same-length-5 c = search needs
 
 returns-4 : tie.Need-returns-4
-returns-4 c =
+returns-4 c = search (needs, within-le)
+
+same-length-6 : tie.Need-same-length-6
+same-length-6 c = search needs
+
+returns-5 : tie.Need-returns-5
+returns-5 c =
     let st = c .before .before .before .before .before .before .before .before .before .before .before in
     let step = c .before .before .answer-table in
     let sheet = length (st .args .sheet .now) in
@@ -79,5 +97,6 @@ answer-spec =
     tie.close
     (tie.spec number-requires check-requires next-requires slice-reshare-prefix-sheet-run slice-aggregate-sheet-run
     sheet-run-requires next-requires-2 slice-reshare-prefix-compile slice-aggregate-compile compile-requires
-    next-requires-3 answer-table-requires same-length returns same-length-2 returns-2 same-length-3 same-length-4
-    returns-3 same-length-5 returns-4)
+    next-requires-3 slice-reshare-prefix-masks slice-aggregate-masks masks-requires next-requires-4
+    answer-table-requires same-length returns same-length-2 returns-2 same-length-3 same-length-4 returns-3
+    same-length-5 returns-4 same-length-6 returns-5)

@@ -67,7 +67,7 @@ unfolding sheetRefusal firstOf
 returns-5 c = let q = past-ends (c .before .before) in rw (q .0, q .1, q .2, q .3, failed (c .before .terms-ok .ensures) (c .if5 .taken))
 
 distinct-ok-requires : tie.Need-distinct-ok-requires
-distinct-ok-requires c κs = let q = past-terms c in (of-true (q .0), of-true (q .2))
+distinct-ok-requires c κs = let q = past-terms c in (of-true (q .0), of-true (q .2), of-true (q .3))
 
 returns-6 : tie.Need-returns-6
 unfolding sheetRefusal firstOf

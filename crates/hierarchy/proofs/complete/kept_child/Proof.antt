@@ -1,66 +1,44 @@
--- `hierarchy::complete::kept_child` meets its contract. The loop's invariant: r is what the definition gives for the modes below c.
--- Assumes nothing.
+-- `hierarchy::complete::kept_child` meets its contract. Assumes nothing.
 use mathlib.Core.Path.{_≡_, _∙_}
-use mathlib.Core.Logic.{⊎-elim}
-use Prim.Native.Nat.{_≤_, _<_, _-_}
+use native.Mathlib.Nat.{pos-of-ne-zero}
 use native.Mathlib.Omega.{arith}
-use Rattle.meaning.specs.Sheet.{nOf}
+use borrow.Author.Needs.{needs}
+use lib.ListN.{getD}
+use Rattle.meaning.specs.Hierarchy.{children}
 use Rattle.meaning.proofs.SheetLaws.{sound}
-use Rattle.sheet.proofs.Past.{head-read, row-read}
-use Rattle.hierarchy.proofs.BelowLaws.{keptChildSoFar, kept-child-start, kept-child-hit, kept-child-miss, kept-child-end}
+use Rattle.sheet.proofs.Past.{mode-small, row-read}
+use Rattle.sheet.proofs.MaskLaws.{children-word}
+use Rattle.hierarchy.proofs.BelowLaws.{kept-child-first, kept-child-highest}
 use Rattle.hierarchy.proofs.complete.kept_child.Statement.{statement}
 use Rattle.hierarchy.proofs.complete.kept_child.Tie as tie
 
-abbrev Inv-loop : tie.InvT-loop
-Inv-loop sheet x m n r₀ c₀ r c = (r ≡ keptChildSoFar sheet x m c) × (m < c) × (c ≤ n)
+-- the word that is read
+word : (c : tie.Start) → getD (c .args .children .now) (c .args .m) 0 ≡ children (c .args .sheet .now) (c .args .m)
+word c = let p = c .pre in children-word _ _ _ (p .0) (p .1) (p .2)
 
-abbrev μ-loop : tie.MeasureT-loop
-μ-loop sheet x m n r₀ c₀ r c = n - c
+mul-c : tie.Need-mul-c
+mul-c c = let p = c .before .pre in omega (arith, mode-small _ (p .0) _ (p .1))
 
-mode-count-requires : tie.Need-mode-count-requires Inv-loop μ-loop
-mode-count-requires c κs = head-read _ (c .before .pre .0)
+element-copy-out-c : tie.Need-element-copy-out-c
+element-copy-out-c c = let p = c .before .pre in mode-small _ (p .0) _ (p .1)
 
-first-requires : tie.Need-first-requires Inv-loop μ-loop
-first-requires c κs = let p = c .before .before .pre in row-read _ (p .0) _ (p .1)
+first-requires : tie.Need-first-requires
+first-requires c κs = let p = c .before .before .before .pre in row-read _ (p .0) _ (p .1)
 
-add-c : tie.Need-add-c Inv-loop μ-loop
-add-c c = omega arith
-
-loop-holds : tie.Need-loop-holds Inv-loop μ-loop
-loop-holds c =
-    let p = c .before .before .before .pre in
-    (kept-child-start _ (sound _ (p .0)) _ _ _ (p .1) (c .first .ensures), omega arith, omega arith)
-
-child-in-requires : tie.Need-child-in-requires Inv-loop μ-loop
-child-in-requires c κs = (c .before .before .before .before .before .pre .0, omega arith)
-
-add-c-2 : tie.Need-add-c-2 Inv-loop μ-loop
-add-c-2 c = omega arith
-
-loop-less : tie.Need-loop-less Inv-loop μ-loop
-loop-less c = omega arith
-
-loop-again : tie.Need-loop-again Inv-loop μ-loop
-loop-again c =
-    let l = c .before .before .before .loop in
-    let sd = sound _ (c .before .before .before .before .before .before .before .pre .0) in
-    let e = c .before .child-in .ensures in (
-      ⊎-elim (λ w. w .1 ∙ kept-child-hit _ sd _ _ _ _ e (w .0 .taken))
-          (λ w. w .1 ∙ kept-child-miss _ sd _ _ _ _ _ e (w .0 .left) (l .inv .0))
-          (c .if1 .came),
-      omega arith,
-      omega arith,
-    )
-
-returns : tie.Need-returns Inv-loop μ-loop
+returns : tie.Need-returns
 returns c =
-    let l = c .before .loop in
-    let s = c .before .before .before .before .before in
-    let e : l .c ≡ nOf (s .args .sheet .now) = omega arith in
-    kept-child-end _ (sound _ (s .pre .0)) (s .args .x) (s .args .m) (l .c) (l .r) e (l .inv .0)
+    let s = c .before .before .before .before in
+    let p = s .pre in
+    c .first .ensures ∙ kept-child-first _ (sound _ (p .0)) _ _ _ (word s) (c .before .if1 .taken)
+
+highest-requires : tie.Need-highest-requires
+highest-requires c κs = search needs
+
+returns-2 : tie.Need-returns-2
+returns-2 c =
+    let s = c .before .before .before .before in
+    let p = s .pre in
+    c .highest .ensures ∙ kept-child-highest _ (sound _ (p .0)) _ _ _ (word s) (s .fits .x .fits) (pos-of-ne-zero (c .before .if1 .left))
 
 pub kept-child-spec : {M : Type 1} → statement M
-kept-child-spec =
-    tie.close
-    (tie.spec Inv-loop μ-loop mode-count-requires first-requires add-c loop-holds child-in-requires add-c-2 loop-less
-    loop-again returns)
+kept-child-spec = tie.close (tie.spec mul-c element-copy-out-c first-requires returns highest-requires returns-2)

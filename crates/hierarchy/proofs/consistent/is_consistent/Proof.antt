@@ -47,19 +47,23 @@ returns c =
     (λ w. consistent-rootless (s .args .sheet .now) (s .pre) x (s .fits .x .fits) (sym (w .1 .ensures) ∙ not-true _ (w .2 .taken)))
     (c .if1 .came)
 
+children-requires : tie.Need-children-requires
+children-requires c κs = head-read _ (c .before .before .before .before .before .before .before .pre)
+
 members-ok-requires : tie.Need-members-ok-requires
 members-ok-requires c κs =
-    let s = c .before .before .before .before .before .before .before in
-    (s .pre, below-lt-n (s .args .sheet .now) (s .pre) (s .args .x) (s .fits .x .fits) (within-n (c .before .before .before) _ (not-false _ (c .before .before .if1 .left))))
+    let s = c .before .before .before .before .before .before .before .before .before in
+    (s .pre, below-lt-n (s .args .sheet .now) (s .pre) (s .args .x) (s .fits .x .fits) (within-n (c .before .before .before .before .before) _ (not-false _ (c .before .before .before .before .if1 .left))), c .before .children .ensures)
 
 returns-2 : tie.Need-returns-2
 returns-2 c =
-    let s = c .before .before .before .before .before .before .before .before in
+    let s = c .before .before .before .before .before .before .before .before .before .before in
     c .members-ok .ensures
-    ∙ consistent-members (s .args .sheet .now) (s .pre) (s .args .x) (s .fits .x .fits) (within-n (c .before .before .before .before) _ (not-false _ (c .before .before .before .if1 .left)))
-    (sym (c .before .before .has .ensures) ∙ not-false _ (c .before .if2 .left))
+    ∙ consistent-members (s .args .sheet .now) (s .pre) (s .args .x) (s .fits .x .fits) (within-n (c .before .before .before .before .before .before) _ (not-false _ (c .before .before .before .before .before .if1 .left)))
+    (sym (c .before .before .before .before .has .ensures) ∙ not-false _ (c .before .before .before .if2 .left))
 
 pub is-consistent-spec : {M : Type 1} → statement M
 is-consistent-spec =
     tie.close
-    (tie.spec mode-count-requires below-requires within-requires has-requires returns members-ok-requires returns-2)
+    (tie.spec mode-count-requires below-requires within-requires has-requires returns children-requires
+    members-ok-requires returns-2)

@@ -5,14 +5,21 @@ use Prim.Native.Nat.{ℕ}
 use native.Mathlib.Omega.{arith}
 use borrow.Author.Tests.{not-true, not-false}
 use lib.Dec.{eqb}
+use lib.ListN.{getD}
 use Rattle.sets.specs.Sets.{has, meet, size, everyIn}
-use Rattle.meaning.proofs.SheetLaws.{parent-le, sound, n-le, tree}
 use Rattle.meaning.specs.Sheet.{parent}
-use Rattle.sheet.proofs.Past.{row-read}
+use Rattle.meaning.specs.Hierarchy.{children}
+use Rattle.meaning.proofs.SheetLaws.{parent-le, sound, n-le, tree}
+use Rattle.sheet.proofs.Past.{mode-small, row-read}
+use Rattle.sheet.proofs.MaskLaws.{children-word}
 use Rattle.hierarchy.proofs.ConsistentLaws.{member-orphan, member-serial, member-parallel, member-atomic}
 use borrow.Author.Needs.{needs}
 use Rattle.hierarchy.proofs.consistent.member_ok.Statement.{statement}
 use Rattle.hierarchy.proofs.consistent.member_ok.Tie as tie
+
+-- the word of children that is read
+word : (c : tie.Start) → getD (c .args .children .now) (c .args .m) 0 ≡ children (c .args .sheet .now) (c .args .m)
+word c = let p = c .pre in children-word _ _ _ (p .0) (p .1) (p .2)
 
 parent-requires : tie.Need-parent-requires
 parent-requires c κs = row-read _ (c .before .pre .0) _ (c .before .pre .1)
@@ -32,8 +39,11 @@ returns c =
     let s = c .before .before .before .before in
     sym (member-orphan (s .args .sheet .now) (s .pre .0) (s .args .x) (s .args .m) (parented (c .before) _ (not-true _ (c .if1 .taken))))
 
-children-of-requires : tie.Need-children-of-requires
-children-of-requires c κs = search needs
+mul-all : tie.Need-mul-all
+mul-all c = let p = c .before .before .before .before .pre in omega (arith, mode-small _ (p .0) _ (p .1))
+
+element-copy-out-all : tie.Need-element-copy-out-all
+element-copy-out-all c = let p = c .before .before .before .before .pre in mode-small _ (p .0) _ (p .1)
 
 kind-requires : tie.Need-kind-requires
 kind-requires c κs = let s = c .before .before .before .before .before in row-read _ (s .pre .0) _ (s .pre .1)
@@ -49,7 +59,7 @@ returns-2 c =
     let s = c .before .before .before .before .before .before .before .before in
     let e = parented (c .before .before .before .before .before) _ (not-false _ (c .before .before .before .before .if1 .left)) in
     c .one-member .ensures
-    ∙ ap (λ (y : ℕ). eqb (size 32 (meet (s .args .x) y)) 1) (c .before .before .before .children-of .ensures)
+    ∙ ap (λ (y : ℕ). eqb (size 32 (meet (s .args .x) y)) 1) (word s)
     ∙ member-serial (s .args .sheet .now) (s .pre .0) (s .args .x) (s .args .m) e (sym (c .before .before .kind .ensures) ∙ c .before .match .keys1)
 
 returns-3 : tie.Need-returns-3
@@ -57,7 +67,7 @@ returns-3 c =
     let s = c .before .before .before .before .before .before .before .before in
     let e = parented (c .before .before .before .before .before) _ (not-false _ (c .before .before .before .before .if1 .left)) in
     c .within .ensures
-    ∙ ap (λ (y : ℕ). everyIn 32 y (has (s .args .x))) (c .before .before .before .children-of .ensures)
+    ∙ ap (λ (y : ℕ). everyIn 32 y (has (s .args .x))) (word s)
     ∙ member-parallel (s .args .sheet .now) (s .pre .0) (s .args .x) (s .args .m) e (sym (c .before .before .kind .ensures) ∙ c .before .match .keys2)
 
 returns-4 : tie.Need-returns-4
@@ -71,5 +81,5 @@ returns-4 c =
 pub member-ok-spec : {M : Type 1} → statement M
 member-ok-spec =
     tie.close
-    (tie.spec parent-requires has-requires returns children-of-requires kind-requires one-member-requires
-    within-requires returns-2 returns-3 returns-4)
+    (tie.spec parent-requires has-requires returns mul-all element-copy-out-all kind-requires
+    one-member-requires within-requires returns-2 returns-3 returns-4)

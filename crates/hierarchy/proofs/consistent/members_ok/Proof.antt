@@ -17,11 +17,11 @@ use Rattle.hierarchy.proofs.consistent.members_ok.Statement.{statement}
 use Rattle.hierarchy.proofs.consistent.members_ok.Tie as tie
 
 abbrev Inv-loop : tie.InvT-loop
-Inv-loop sheet x rest₀ rest =
+Inv-loop sheet words x rest₀ rest =
     (rest < 2 ^ 32) × Subset rest x × (everyIn 32 rest (memberOk sheet x) ≡ everyIn (nOf sheet) x (memberOk sheet x))
 
 abbrev μ-loop : tie.MeasureT-loop
-μ-loop sheet x rest₀ rest = rest
+μ-loop sheet words x rest₀ rest = rest
 
 loop-holds : tie.Need-loop-holds Inv-loop μ-loop
 loop-holds c =
@@ -41,7 +41,7 @@ member-ok-requires : tie.Need-member-ok-requires Inv-loop μ-loop
 member-ok-requires c κs =
     let s = c .before .before .before .before in
     let l = c .before .before .loop in
-    (s .pre .0, has-lt (nOf (s .args .sheet .now)) (s .args .x) (c .lowest .result) (s .pre .1) (l .inv .1 (c .lowest .result) (of-true (known c refl .lowest .member))))
+    (s .pre .0, has-lt (nOf (s .args .sheet .now)) (s .args .x) (c .lowest .result) (s .pre .1) (l .inv .1 (c .lowest .result) (of-true (known c refl .lowest .member))), s .pre .2)
 
 returns : tie.Need-returns Inv-loop μ-loop
 returns c =

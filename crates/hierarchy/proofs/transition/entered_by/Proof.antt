@@ -2,45 +2,35 @@
 -- Assumes nothing.
 use mathlib.Core.Path.{_∙_}
 use Rattle.meaning.proofs.SheetLaws.{sound}
-use Rattle.meaning.proofs.Containment.{ends}
-use Rattle.sheet.proofs.Past.{tree-read, record-read}
-use Rattle.hierarchy.proofs.TransitionLaws.{target-held, path-held, enters-branch}
+use Rattle.sheet.proofs.Past.{record-read}
+use Rattle.hierarchy.proofs.TransitionLaws.{target-held, enters-branch}
 use Rattle.hierarchy.proofs.transition.entered_by.Statement.{statement}
 use Rattle.hierarchy.proofs.transition.entered_by.Tie as tie
 
 target-requires : tie.Need-target-requires
-target-requires c κs = let p = c .before .pre in record-read _ (p .0) _ (p .1)
-
-meeting-requires : tie.Need-meeting-requires
-meeting-requires c κs =
-    let p = c .before .before .pre in
-    let e = ends _ (sound _ (p .0)) _ (p .1) in
-    (tree-read _ (p .0), record-read _ (p .0) _ (p .1), e .source-n, e .target-n)
+target-requires c κs = let p = c .before .pre in record-read _ (p .0) _ (p .4)
 
 child-holding-requires : tie.Need-child-holding-requires
 child-holding-requires c κs =
-    let p = c .before .before .before .pre in
-    let h = target-held _ (sound _ (p .0)) _ (p .1) _ (c .meeting .ensures .0) _ (c .before .target .ensures) in
-    (tree-read _ (p .0), h .0, h .1)
+    let p = c .before .before .pre in
+    let h = target-held _ (sound _ (p .0)) _ (p .4) _ (p .5) _ (c .target .ensures) in
+    (p .0, p .2, p .3, h .0, h .1)
 
 path-requires : tie.Need-path-requires
 path-requires c κs =
-    let p = c .before .before .before .before .pre in
-    let sd = sound _ (p .0) in
-    let m = c .before .meeting .ensures .0 in
-    let b = c .before .before .target .ensures in
-    (p .0, target-held _ sd _ (p .1) _ m _ b .0, path-held _ sd _ (p .1) _ m _ _ b (c .child-holding .ensures .0))
+    let p = c .before .before .before .pre in
+    (p .0, p .2, p .3, c .child-holding .ensures .1, target-held _ (sound _ (p .0)) _ (p .4) _ (p .5) _ (c .before .target .ensures) .0)
 
 completed-requires : tie.Need-completed-requires
-completed-requires c κs = (c .before .before .before .before .before .pre .0, c .before .child-holding .ensures .1)
+completed-requires c κs = let p = c .before .before .before .before .pre in (p .0, c .before .child-holding .ensures .1, p .1)
 
 returns : tie.Need-returns
 returns c =
-    let p = c .before .before .before .before .before .before .pre in
+    let p = c .before .before .before .before .before .pre in
     c .completed .ensures
-    ∙ enters-branch _ (sound _ (p .0)) _ (p .1) _ (c .before .before .before .meeting .ensures .0) _ _ _ (c .before .before .before .before .target .ensures) (c .before .before .child-holding .ensures .0) (c .before .path .ensures)
+    ∙ enters-branch _ (sound _ (p .0)) _ (p .4) _ (p .5) _ _ _ (c .before .before .before .target .ensures) (c .before .before .child-holding .ensures .0) (c .before .path .ensures)
 
 pub entered-by-spec : {M : Type 1} → statement M
 entered-by-spec =
     tie.close
-    (tie.spec target-requires meeting-requires child-holding-requires path-requires completed-requires returns)
+    (tie.spec target-requires child-holding-requires path-requires completed-requires returns)

@@ -11,15 +11,16 @@ use Rattle.meaning.proofs.SheetLaws.{sound, t-le}
 use Rattle.sheet.proofs.Past.{head-read}
 use Rattle.reaction.specs.Plan.{exitsPart, entersPart}
 use Rattle.planner.proofs.PartLaws.{part-none, parts-turn, parts-done}
+use Rattle.planner.proofs.ConflictLaws.{meetings-word}
 use Rattle.planner.proofs.ends.put_ends.Statement.{statement}
 use Rattle.planner.proofs.ends.put_ends.Tie as tie
 
 abbrev Inv-loop : tie.InvT-loop
-Inv-loop sheet inside plan₀ count t₀ plan t =
+Inv-loop sheet children within containers meets plan₀ count t₀ plan t =
     (t ≤ tOf sheet) × (tOf sheet ≤ 64) × (plan ≡ over (over plan₀ exitsPart (rowFrom 0 t (exits sheet))) entersPart (rowFrom 0 t (enters sheet)))
 
 abbrev μ-loop : tie.MeasureT-loop
-μ-loop sheet inside plan₀ count t₀ plan t = tOf sheet - t
+μ-loop sheet children within containers meets plan₀ count t₀ plan t = tOf sheet - t
 
 transition-count-requires : tie.Need-transition-count-requires Inv-loop μ-loop
 transition-count-requires c κs = head-read (c .before .args .sheet .now) (c .before .pre .0)
@@ -28,10 +29,16 @@ loop-holds : tie.Need-loop-holds Inv-loop μ-loop
 loop-holds c =
     (omega arith, t-le _ (sound _ (c .before .before .pre .0)), part-none (c .before .before .args .plan .now) exitsPart _ ∙ part-none _ entersPart _)
 
+mul-p : tie.Need-mul-p Inv-loop μ-loop
+mul-p c = omega arith
+
+element-copy-out-p : tie.Need-element-copy-out-p Inv-loop μ-loop
+element-copy-out-p c = omega arith
+
 exited-by-requires : tie.Need-exited-by-requires Inv-loop μ-loop
 exited-by-requires c κs =
-    let b = c .before .before .before .before in
-    (b .pre .0, omega arith, b .pre .2)
+    let b = c .before .before .before .before .before in
+    (b .pre .0, b .pre .3, b .pre .4, omega arith, meetings-word _ (b .pre .0) _ (b .pre .5) (c .before .before .loop .t) (omega arith))
 
 cast-plan : tie.Need-cast-plan Inv-loop μ-loop
 cast-plan c = search needs
@@ -47,8 +54,8 @@ element-write-plan c = omega arith
 
 entered-by-requires : tie.Need-entered-by-requires Inv-loop μ-loop
 entered-by-requires c κs =
-    let b = c .before .before .before .before .before in
-    (b .pre .0, omega arith)
+    let b = c .before .before .before .before .before .before in
+    (b .pre .0, b .pre .2, b .pre .3, b .pre .4, omega arith, meetings-word _ (b .pre .0) _ (b .pre .5) (c .before .before .before .loop .t) (omega arith))
 
 cast-plan-2 : tie.Need-cast-plan-2 Inv-loop μ-loop
 cast-plan-2 c = search needs
@@ -70,8 +77,8 @@ loop-less c = omega arith
 
 loop-again : tie.Need-loop-again Inv-loop μ-loop
 loop-again c =
-    let b = c .before .before .before .before .before .before in
-    let l = c .before .before .before .loop in
+    let b = c .before .before .before .before .before .before .before in
+    let l = c .before .before .before .before .loop in
     let s = b .args .sheet .now in
     let turn = parts-turn (b .args .plan .now) exitsPart entersPart (exits s) (enters s) (l .t) (omega arith) (omega arith) (l .inv .2) in
     (omega arith, l .inv .1, turn (c .before .exited-by .ensures) (c .entered-by .ensures))
@@ -82,6 +89,6 @@ returns c = parts-done _ _ _ _ _ _ (c .before .loop .inv .2) (omega arith)
 pub put-ends-spec : {M : Type 1} → statement M
 put-ends-spec =
     tie.close
-    (tie.spec Inv-loop μ-loop transition-count-requires loop-holds exited-by-requires cast-plan add-plan mul-plan
+    (tie.spec Inv-loop μ-loop transition-count-requires loop-holds mul-p element-copy-out-p exited-by-requires cast-plan add-plan mul-plan
     element-write-plan entered-by-requires cast-plan-2 add-plan-2 mul-plan-2 element-write-plan-2 add-t loop-less
     loop-again returns)

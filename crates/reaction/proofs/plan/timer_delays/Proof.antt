@@ -6,7 +6,7 @@ use native.Mathlib.Omega.{arith}
 use lib.ListN.{length, getD, length-set}
 use Rattle.reaction.specs.Plan.{timerDelay}
 use Rattle.sets.proofs.Loops.{row-turn}
-use Rattle.reaction.proofs.PlanLaws.{row-done}
+use Rattle.meaning.proofs.ListLaws.{row-done}
 use Rattle.reaction.proofs.plan.timer_delays.Statement.{statement}
 use Rattle.reaction.proofs.plan.timer_delays.Tie as tie
 

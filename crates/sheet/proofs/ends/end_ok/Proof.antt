@@ -31,10 +31,14 @@ returns c =
     (c .if1 .came))
 
 contains-requires : tie.Need-contains-requires
-contains-requires c κs = (c .before .before .before .before .before .before .pre .0, omega (arith, leb-false))
+contains-requires c κs =
+    let q = c .before .before .before .before .before .before .pre in
+    (q .0, q .2, omega (arith, leb-false), omega (arith, leb-false))
 
 contains-requires-2 : tie.Need-contains-requires-2
-contains-requires-2 c κs = (c .before .before .before .before .before .before .before .before .pre .0, omega (arith, leb-false))
+contains-requires-2 c κs =
+    let q = c .before .before .before .before .before .before .before .before .pre in
+    (q .0, q .2, omega (arith, leb-false), omega (arith, leb-false))
 
 returns-2 : tie.Need-returns-2
 unfolding endOk
@@ -50,7 +54,16 @@ returns-2 c =
 meeting-requires : tie.Need-meeting-requires
 meeting-requires c κs =
     let q = c .before .before .before .before .before .before .before .before .before .before .pre in
-    (q .0, q .1, omega arith, omega (arith, leb-false))
+    let a = c .before .before .before .before .before .before .before .source .ensures in
+    let b = c .before .before .before .before .before .before .target .ensures in (
+      q .0,
+      q .1,
+      q .2,
+      omega arith,
+      omega (arith, leb-false),
+      sym (rw (a, b) at (c .before .before .before .contains .ensures)) ∙ c .before .before .if3 .left,
+      sym (rw (a, b) at (c .before .contains2 .ensures)) ∙ c .if4 .left,
+    )
 
 is-serial-requires : tie.Need-is-serial-requires
 is-serial-requires c κs = search needs

@@ -11,13 +11,16 @@ use Rattle.sheet.proofs.ends.ends_ok.Statement.{statement}
 use Rattle.sheet.proofs.ends.ends_ok.Tie as tie
 
 abbrev Inv-loop : tie.InvT-loop
-Inv-loop sheet count t₀ t = (t ≤ count) × (every t (endOk sheet) ≡ true)
+Inv-loop sheet count containers t₀ t = (t ≤ count) × (every t (endOk sheet) ≡ true)
 
 abbrev μ-loop : tie.MeasureT-loop
-μ-loop sheet count t₀ t = count - t
+μ-loop sheet count containers t₀ t = count - t
 
 transition-count-requires : tie.Need-transition-count-requires Inv-loop μ-loop
 transition-count-requires c κs = search needs
+
+containers-requires : tie.Need-containers-requires Inv-loop μ-loop
+containers-requires c κs = search needs
 
 loop-holds : tie.Need-loop-holds Inv-loop μ-loop
 loop-holds c = (zero-le, every-start _)
@@ -36,7 +39,7 @@ loop-less : tie.Need-loop-less Inv-loop μ-loop
 loop-less c = search needs
 
 loop-again : tie.Need-loop-again Inv-loop μ-loop
-loop-again c = (search needs, every-next _ _ (c .before .before .before .loop .inv .1) (passed (c .before .end-ok .ensures) (c .if1 .left)))
+loop-again c = (search needs, every-next _ _ (c .before .before .before .before .loop .inv .1) (passed (c .before .end-ok .ensures) (c .if1 .left)))
 
 returns-2 : tie.Need-returns-2 Inv-loop μ-loop
 unfolding endsOk
@@ -45,5 +48,5 @@ returns-2 c = sym (every-done _ _ _ (search needs) (search needs) (c .before .lo
 pub ends-ok-spec : {M : Type 1} → statement M
 ends-ok-spec =
     tie.close
-    (tie.spec Inv-loop μ-loop transition-count-requires loop-holds end-ok-requires returns add-t loop-less loop-again
+    (tie.spec Inv-loop μ-loop transition-count-requires containers-requires loop-holds end-ok-requires returns add-t loop-less loop-again
     returns-2)

@@ -11,19 +11,22 @@ use Rattle.sheet.proofs.modes.modes_ok.Statement.{statement}
 use Rattle.sheet.proofs.modes.modes_ok.Tie as tie
 
 abbrev Inv-loop : tie.InvT-loop
-Inv-loop sheet n m₀ m = (m ≤ n) × (every m (modeOk sheet) ≡ true)
+Inv-loop sheet n children m₀ m = (m ≤ n) × (every m (modeOk sheet) ≡ true)
 
 abbrev μ-loop : tie.MeasureT-loop
-μ-loop sheet n m₀ m = n - m
+μ-loop sheet n children m₀ m = n - m
 
 mode-count-requires : tie.Need-mode-count-requires Inv-loop μ-loop
 mode-count-requires c κs = search needs
+
+children-requires : tie.Need-children-requires Inv-loop μ-loop
+children-requires c κs = search needs
 
 loop-holds : tie.Need-loop-holds Inv-loop μ-loop
 loop-holds c = (zero-le, every-start _)
 
 mode-ok-requires : tie.Need-mode-ok-requires Inv-loop μ-loop
-mode-ok-requires c κs = record { head = c .before .before .before .before .pre; mode = search needs }
+mode-ok-requires c κs = search needs
 
 returns : tie.Need-returns Inv-loop μ-loop
 unfolding modesOk
@@ -36,7 +39,7 @@ loop-less : tie.Need-loop-less Inv-loop μ-loop
 loop-less c = search needs
 
 loop-again : tie.Need-loop-again Inv-loop μ-loop
-loop-again c = (search needs, every-next _ _ (c .before .before .before .loop .inv .1) (passed (c .before .mode-ok .ensures) (c .if1 .left)))
+loop-again c = (search needs, every-next _ _ (c .before .before .before .before .loop .inv .1) (passed (c .before .mode-ok .ensures) (c .if1 .left)))
 
 returns-2 : tie.Need-returns-2 Inv-loop μ-loop
 unfolding modesOk
@@ -45,5 +48,5 @@ returns-2 c = sym (every-done _ _ _ (search needs) (search needs) (c .before .lo
 pub modes-ok-spec : {M : Type 1} → statement M
 modes-ok-spec =
     tie.close
-    (tie.spec Inv-loop μ-loop mode-count-requires loop-holds mode-ok-requires returns add-m loop-less loop-again
+    (tie.spec Inv-loop μ-loop mode-count-requires children-requires loop-holds mode-ok-requires returns add-m loop-less loop-again
     returns-2)

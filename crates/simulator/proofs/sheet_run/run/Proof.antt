@@ -1,5 +1,5 @@
 -- `simulator::sheet_run::run` meets its contract: each way out is a case of `sheetRun`, in its order. Assumes nothing.
-use mathlib.Core.Path.{_≡_, sym, _∙_}
+use mathlib.Core.Path.{_≡_, refl, sym, _∙_}
 use mathlib.Core.Bool.{true}
 use native.Mathlib.Omega.{arith}
 use borrow.Author.Needs.{needs}
@@ -17,7 +17,7 @@ use Rattle.simulator.proofs.sheet_run.run.Tie as tie
 abbrev entry : tie.After-check → tie.Start
 entry c = c .before .before .before .before
 
-abbrev plan : tie.After-timer-delays → tie.After-planned
+abbrev plan : tie.After-timer-delays → tie.After-put-plan
 plan c = c .before .before
 
 abbrev delays : tie.After-delays → tie.After-timer-delays
@@ -26,12 +26,12 @@ delays c = c .before .before
 abbrev ready : tie.After-ticks-arg → tie.Else3
 ready c = c .before .before .before
 
-abbrev prepared : tie.After-state-ok → tie.After-planned
+abbrev prepared : tie.After-state-ok → tie.After-put-plan
 prepared c = plan (delays (c .before))
 
 -- there the state is sound
 admitted : (c : tie.Else2)
-    → let a = entry (prepared (c .before) .before .before .before) .args in stateOk (a .sheet .now) (stateOf (a .state)) ≡ true
+    → let a = entry (prepared (c .before) .before .before .before .before) .args in stateOk (a .sheet .now) (stateOf (a .state)) ≡ true
 admitted c = passed (c .before .state-ok .ensures) (c .if2 .left)
 
 -- ---- the needs
@@ -54,14 +54,14 @@ returns c =
     ∙ stopped-refused _ _ _ _ _ _ _ (refused .before .before .check .ensures) (λ e. refused .if1 .taken (refused .before .number .ensures ∙ e)))
     (omega (arith, c .stops .ensures .1))
 
-planned-requires : tie.Need-planned-requires
-planned-requires c κs = sym (c .before .before .check .ensures) ∙ sym (c .before .number .ensures) ∙ c .if1 .left
+put-plan-requires : tie.Need-put-plan-requires
+put-plan-requires c κs = (sym (c .before .before .before .check .ensures) ∙ sym (c .before .before .number .ensures) ∙ c .before .if1 .left, refl)
 
 timer-delays-requires : tie.Need-timer-delays-requires
 timer-delays-requires c κs = search needs
 
 state-ok-requires : tie.Need-state-ok-requires
-state-ok-requires c κs = (plan (delays c) .planned .ensures, delays c .timer-delays .ensures)
+state-ok-requires c κs = (plan (delays c) .put-plan .ensures, delays c .timer-delays .ensures)
 
 stops-requires-2 : tie.Need-stops-requires-2
 stops-requires-2 c κs = search needs
@@ -72,7 +72,7 @@ returns-2 c =
     let state = c .before .before in
     answered _ _ _ _
     (c .stops2 .ensures .0 _
-    ∙ stopped-state _ _ _ _ _ _ _ (prepared state .planned .ensures .passes) (failed (state .state-ok .ensures) (c .before .if2 .taken)))
+    ∙ stopped-state _ _ _ _ _ _ _ (prepared state .put-plan .ensures .passes) (failed (state .state-ok .ensures) (c .before .if2 .taken)))
     (omega (arith, c .stops2 .ensures .1))
 
 stops-requires-3 : tie.Need-stops-requires-3
@@ -84,14 +84,14 @@ returns-3 c =
     let state = c .before .before in
     answered _ _ _ _
     (c .stops3 .ensures .0 _
-    ∙ stopped-short _ _ _ _ _ _ _ (prepared (state .before) .planned .ensures .passes) (admitted state) (c .before .if3 .taken))
+    ∙ stopped-short _ _ _ _ _ _ _ (prepared (state .before) .put-plan .ensures .passes) (admitted state) (c .before .if3 .taken))
     (omega (arith, c .stops3 .ensures .1))
 
 ticks-requires : tie.Need-ticks-requires
 ticks-requires c κs =
     let room = ready c in
     let made = delays (room .before .before .before) in
-    (plan made .planned .ensures, made .timer-delays .ensures, admitted (room .before), omega (arith, room .if3 .left))
+    (plan made .put-plan .ensures, made .timer-delays .ensures, admitted (room .before), omega (arith, room .if3 .left))
 
 same-length : tie.Need-same-length
 same-length c = search needs
@@ -104,11 +104,11 @@ returns-4 c =
     let state = room .before in
     answered _ _ _ _
     (end .ticks .ensures .0
-    ∙ goes-on _ _ _ _ _ _ _ (prepared (state .before) .planned .ensures .passes) (admitted state) (omega (arith, room .if3 .left)))
+    ∙ goes-on _ _ _ _ _ _ _ (prepared (state .before) .put-plan .ensures .passes) (admitted state) (omega (arith, room .if3 .left)))
     (end .ticks .ensures .1)
 
 pub run-spec : {M : Type 1} → statement M
 run-spec =
     tie.close
-    (tie.spec check-requires number-requires stops-requires returns planned-requires timer-delays-requires
+    (tie.spec check-requires number-requires stops-requires returns put-plan-requires timer-delays-requires
     state-ok-requires stops-requires-2 returns-2 stops-requires-3 returns-3 ticks-requires same-length returns-4)
