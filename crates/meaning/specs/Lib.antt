@@ -19,6 +19,7 @@ pub mod OneByOne
 pub mod WholeList
 pub mod Faithful
 pub mod HighestLevelFirst
+pub mod NamedEvents
 pub mod Promises
 pub mod Charts
 pub mod Opened

@@ -12,6 +12,10 @@ use Rattle.meaning.specs.Reaction.{TickSets}
 abbrev pub factsOf : ℕ → TickSets → List ℕ
 factsOf i z = 0 ∷ i ∷ (2 ^ 32 - 1 - i) ∷ z .active ∷ z .entered ∷ z .exited ∷ z .taken ∷ 0 ∷ []
 
+-- the most that these words can be before anything is entered, exited or taken: every event and what is not in the input, every mode
+abbrev pub openFacts : List ℕ
+openFacts = 0 ∷ (2 ^ 64 - 1) ∷ (2 ^ 64 - 1) ∷ (2 ^ 64 - 1) ∷ 0 ∷ 0 ∷ 0 ∷ 0 ∷ []
+
 -- a term of kind c and value v holds by the words f
 unfoldable pub holdsBy : List ℕ → ℕ → ℕ → Bool
 holdsBy f c v = cond (eqb c 3) (meets v (getD f 3 0)) (has (getD f c 0) v)

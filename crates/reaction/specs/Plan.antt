@@ -5,12 +5,14 @@ use mathlib.Core.List.{List}
 use Prim.Native.Nat.{ℕ, _+_, _^_, _<_}
 use lib.Dec.{eqb, ltb}
 use lib.ListN.{getD}
-use Rattle.sets.specs.Sets.{has, single, setOf, every}
-use Rattle.meaning.specs.Sheet.{kOf, tOf, source, termCount, termKind}
+use Rattle.sets.specs.Sets.{has, union, meets, single, setOf, those, some, every}
+use Rattle.meaning.specs.Sheet.{kOf, tOf, source, termCount, termKind, termValue}
 use Rattle.meaning.specs.Check.{sheetRefusal}
 use Rattle.meaning.specs.Hierarchy.{complete, exits, enters}
 use Rattle.meaning.specs.GivesWay.{givesWay}
 use Rattle.meaning.specs.Reaction.{TickSets, isDelay, delay, isTimer, alternative, conflict}
+use Rattle.meaning.specs.NamedEvents.{names}
+use Rattle.reaction.specs.Facts.{openFacts, alternativeBy}
 
 -- ---- where the parts of the plan begin: 64 words each, one for a transition or an input set, but 32 from `fromPart` on, one for a
 -- mode; then three words and the end
@@ -107,6 +109,34 @@ module _ (s : List ℕ) where
   -- the transitions whose terms are judged in each round
   unfoldable pub mixed : ℕ
   mixed = setOf (tOf s) (λ t. not (isDelay s t) && not (eventsOnly t))
+
+  -- a term of kind c and value v is about what t does: about a mode that t enters or exits, or about t
+  unfoldable pub isAbout : ℕ → ℕ → ℕ → Bool
+  isAbout t c v =
+      cond (eqb c 3) (meets v (enters s t))
+      (cond (eqb c 4) (has (enters s t) v)
+      (cond (eqb c 5) (has (exits s t) v)
+      (eqb c 6 && eqb v t)))
+
+  -- the transitions with a term about what t does
+  unfoldable pub wokenBy : ℕ → ℕ
+  wokenBy t = setOf (tOf s) (λ u. some (termCount s u) (λ j. isAbout t (termKind s u j) (termValue s u j)))
+
+  -- the transitions that a round which takes t can trigger next: t enters their source, or a term of theirs is about what t does
+  unfoldable pub nextOf : ℕ → ℕ
+  nextOf t = union (sourcesIn (enters s t)) (wokenBy t)
+
+  -- of those judged in each round, the transitions whose terms can hold before anything is entered, exited or taken: an
+  -- alternative is about events and active modes alone
+  unfoldable pub early : ℕ
+  early = those 64 mixed (λ t. ltb 0 (alternativeBy s openFacts t))
+
+  -- the events that transitions with a source in x name; the events that any transition names
+  unfoldable pub namedIn : ℕ → ℕ
+  namedIn x = setOf (kOf s) (λ e. some (tOf s) (λ t. has x (source s t) && names s t e))
+
+  unfoldable pub namedAll : ℕ
+  namedAll = setOf (kOf s) (λ e. some (tOf s) (λ t. names s t e))
 
   -- the part FROM of an array of words is right: the transitions with source m
   abbrev pub FromPlanned : List ℕ → Type 0

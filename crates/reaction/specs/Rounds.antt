@@ -1,14 +1,15 @@
 -- The structs of a tick as the sets and ticks of the meaning. Assumes nothing.
 use mathlib.Core.Path.{_≡_}
+use mathlib.Core.Bool.{cond}
 use mathlib.Core.List.{List}
-use Prim.Native.Nat.{ℕ, _+_, _%_, _^_, _<_}
-use lib.Dec.{T}
+use Prim.Native.Nat.{ℕ, zero, suc, _+_, _%_, _^_, _<_}
+use lib.Dec.{T, eqb}
 use lib.ListN.{getD}
 use Rattle.sets.specs.Sets.{has, union, meet, minus, setOf, someIn}
 use Rattle.meaning.specs.Sheet.{nOf, tOf}
 use Rattle.meaning.specs.Refusal.{numberOf}
 use Rattle.meaning.specs.Hierarchy.{exits}
-use Rattle.meaning.specs.Reaction.{TickSets, isTimer, isDue, entering}
+use Rattle.meaning.specs.Reaction.{TickSets, isTimer, isDue, triggered, eligible, ambiguous, restless, entering, afterRound}
 use Rattle.meaning.specs.Tick.{Tick}
 use Rattle.reaction.specs.Plan.{exitsPart, entersPart, conflictsPart, losesPart, gainsPart, sourcesIn, conflictsOf}
 use Rattle.reaction.specs.declared.tick.Sets.{Sets}
@@ -76,3 +77,15 @@ pub record Before (s : List ℕ) (modes live due : ℕ) : Type 0 where
   pub small : due < 2 ^ tOf s
   pub timing : (t : ℕ) → T (has due t) → T (isTimer s t)
   pub none : modes ≡ 0 → due ≡ 0
+
+-- the rounds of a tick from the triggered transitions ts on: as `roundsFrom`, but timers are due in the first round only
+module _ (s : List ℕ) where
+  unfoldable pub roundsBy : ℕ → ℕ → TickSets → ℕ → ℕ → Tick
+  roundsBy zero i z ts r = record { refusal = 0; sets = z; rounds = r }
+  roundsBy (suc f) i z ts r =
+      let es = eligible s ts in
+      let next = afterRound s z es in
+      let on = roundsBy f i next (triggered s 0 i next) (suc r) in
+      cond (eqb es 0) (record { refusal = 0; sets = z; rounds = r })
+      (cond (ambiguous s es) (record { refusal = 8; sets = z; rounds = r })
+      (cond (restless s z es) (record { refusal = 9; sets = z; rounds = r }) on))
