@@ -9,6 +9,7 @@ pub mod Fuel
 pub mod GivesWayLaws
 pub mod TickLaws
 pub mod Consistency
+pub mod NamedLaws
 pub mod AnyOrder
 pub mod StayTriggered
 pub mod ReadingLaws

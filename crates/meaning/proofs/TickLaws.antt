@@ -224,6 +224,10 @@ module _ (s : List ℕ) where
   unfolding afterRound
   entered-after z es m = has-union (z .entered) (entering s es) m
 
+  pub active-after : (z : TickSets) (es m : ℕ) → has (afterRound s z es .active) m ≡ (has (z .active) m || has (entering s es) m)
+  unfolding afterRound
+  active-after z es m = has-union (z .active) (entering s es) m
+
 module _ (s : List ℕ) (d i x : ℕ) where
   StayedOrEntered : TickSets → ℕ → Type 0
   StayedOrEntered z r = (m : ℕ) → T (has (z .modes) m) → T (has (begin s x .modes) m) ⊎ T (has (z .entered) m)

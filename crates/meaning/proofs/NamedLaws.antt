@@ -1,0 +1,288 @@
+-- A tick depends on its input only through the events that transitions with an active source name; which modes are active in a tick.
+-- Assumes nothing.
+use mathlib.Core.Path.{_≡_, refl, sym, ap, ap₂, _∙_, subst}
+use mathlib.Core.Logic.{_⊎_, inl, inr, ⊎-elim}
+use mathlib.Core.Bool.{Bool, true, false, not, _&&_, _||_, cond, or-assoc}
+use mathlib.Core.List.{List, [], _∷_, map}
+use Prim.Native.Nat.{ℕ, zero, suc, _+_, _<_}
+use native.Mathlib.Nat.{zero-add}
+use native.Mathlib.Omega.{arith}
+use lib.Dec.{T, eqb, ltb, eqb-refl}
+use lib.ListN.{drop, getD}
+use lib.Bits.{or-zero-r, or-self}
+use borrow.Author.Tests.{eqb-true, eqb-false}
+use Rattle.sets.specs.Sets.{has, union, minus, single, someIn}
+use Rattle.sets.proofs.Tests.{is-false, of-false, and-l, and-i, or-e, or-l, or-r, bool-ext}
+use Rattle.sets.proofs.Facts.{union-e, union-l, union-r, setOf-e, setOf-i, some-i, someIn-e, someIn-i}
+use Rattle.sets.proofs.Membership.{has-none, has-union, same-members, setOf-same}
+use Rattle.meaning.specs.Lists.{allOf, firstOf}
+use Rattle.meaning.specs.Sheet.{nOf, tOf, source, termCount, termKind, termValue}
+use Rattle.meaning.specs.Check.{sheetRefusal}
+use Rattle.meaning.specs.Hierarchy.{complete, enters}
+use Rattle.meaning.specs.Reaction.{TickSets, isDelay, delay, holds, inFirst, alternativesFrom, alternatives, allHold, alternative, isDue, trigger, triggered, eligible, ambiguous, restless, exiting, entering, afterRound}
+use Rattle.meaning.specs.Tick.{Tick, begin, chosen, roundsFrom, tick}
+use Rattle.meaning.specs.NamedEvents.{names, NamedEvents}
+use Rattle.meaning.proofs.SheetLaws.{Sound, sound}
+use Rattle.meaning.proofs.TickLaws.{Taken, rounds-ind, chosen-member, modes-after, entered-after, active-after, taken-after}
+use Rattle.meaning.proofs.Consistency.{enterTop, enters-whole, entering-i}
+
+-- ---- where each term of t says the same, the same alternative holds
+
+module _ (s : List ℕ) (i j : ℕ) (y z : TickSets) (t : ℕ) where
+  -- term p of t says the same on both
+  SaysSame : ℕ → Type 0
+  SaysSame p = holds s i y (termKind s t p) (termValue s t p) ≡ holds s j z (termKind s t p) (termValue s t p)
+
+  -- term p in front of the first alternative
+  first-same : (p : ℕ) (l : List (List ℕ)) → SaysSame p → map (allHold s i y t) l ≡ map (allHold s j z t) l
+      → map (allHold s i y t) (inFirst p l) ≡ map (allHold s j z t) (inFirst p l)
+  unfolding SaysSame inFirst allHold allOf
+  first-same p [] h e = refl
+  first-same p (ps ∷ l) h e = ap₂ (λ (b : Bool) (bs : List Bool). (b && getD bs 0 true) ∷ drop 1 bs) h e
+
+  from-same : (w p : ℕ) → ((u : ℕ) → u < p + w → SaysSame u)
+      → map (allHold s i y t) (alternativesFrom s t w p) ≡ map (allHold s j z t) (alternativesFrom s t w p)
+  unfolding alternativesFrom allHold allOf
+  from-same zero p h = refl
+  from-same (suc w) p h = go (eqb (termKind s t p) 7) (from-same w (suc p) (λ u l. h u (omega arith)))
+    where
+      rest : List (List ℕ)
+      rest = alternativesFrom s t w (suc p)
+
+      go : (b : Bool) → map (allHold s i y t) rest ≡ map (allHold s j z t) rest
+          → map (allHold s i y t) (cond b ([] ∷ rest) (inFirst p rest)) ≡ map (allHold s j z t) (cond b ([] ∷ rest) (inFirst p rest))
+      go true e = ap (λ (bs : List Bool). true ∷ bs) e
+      go false e = first-same p rest (h p (omega arith)) e
+
+  pub alternative-same : ((p : ℕ) → p < termCount s t → holds s i y (termKind s t p) (termValue s t p) ≡ holds s j z (termKind s t p) (termValue s t p))
+      → alternative s i y t ≡ alternative s j z t
+  unfolding SaysSame alternative alternatives
+  alternative-same h = ap (firstOf 1) (from-same (termCount s t) 0 (λ u l. h u (omega arith)))
+
+-- ---- two inputs that agree on the events that a transition names
+
+module _ (s : List ℕ) (d i j : ℕ) (z : TickSets) where
+  -- a term says the same where they agree on its event, if it is of an event
+  holds-same : (c v : ℕ) → (T (eqb c 1 || eqb c 2) → has i v ≡ has j v) → holds s i z c v ≡ holds s j z c v
+  unfolding holds
+  holds-same c v h = go (eqb c 1) (eqb c 2) h
+    where
+      rest : Bool
+      rest =
+          cond (eqb c 3) (someIn (nOf s) v (has (z .active)))
+          (cond (eqb c 4) (has (z .entered) v) (cond (eqb c 5) (has (z .exited) v) (cond (eqb c 6) (has (z .taken) v) false)))
+
+      go : (a b : Bool) → (T (a || b) → has i v ≡ has j v)
+          → cond a (has i v) (cond b (not (has i v)) rest) ≡ cond a (has j v) (cond b (not (has j v)) rest)
+      go true b k = k tt
+      go false true k = ap not (k tt)
+      go false false k = refl
+
+  -- the event of a term is named
+  names-term : (t p : ℕ) → p < termCount s t → T (eqb (termKind s t p) 1 || eqb (termKind s t p) 2) → T (names s t (termValue s t p))
+  unfolding names
+  names-term t p l h =
+      some-i (termCount s t) (λ u. (eqb (termKind s t u) 1 || eqb (termKind s t u) 2) && eqb (termValue s t u) (termValue s t p)) p l
+      (and-i (eqb (termKind s t p) 1 || eqb (termKind s t p) 2) (eqb (termValue s t p) (termValue s t p)) h (eqb-refl (termValue s t p)))
+
+  -- a transition whose source is not active asks for no agreement
+  pub trigger-same : (t : ℕ) → (T (has (z .modes) (source s t)) → (e : ℕ) → T (names s t e) → has i e ≡ has j e) → trigger s d i z t ≡ trigger s d j z t
+  unfolding trigger
+  trigger-same t h = go (has (z .modes) (source s t)) h
+    where
+      delayed : ℕ
+      delayed = cond (eqb (delay s t) 0 || isDue s d z t) 9 0
+
+      go : (b : Bool) → (T b → (e : ℕ) → T (names s t e) → has i e ≡ has j e)
+          → cond (not b) 0 (cond (isDelay s t) delayed (alternative s i z t)) ≡ cond (not b) 0 (cond (isDelay s t) delayed (alternative s j z t))
+      go false k = refl
+      go true k =
+          ap (cond (isDelay s t) delayed)
+          (alternative-same s i j z z t (λ p l. holds-same (termKind s t p) (termValue s t p) (λ g. k tt (termValue s t p) (names-term t p l g))))
+
+  pub chosen-same : ((t e : ℕ) → t < tOf s → T (has (z .modes) (source s t)) → T (names s t e) → has i e ≡ has j e) → chosen s d i z ≡ chosen s d j z
+  unfolding chosen triggered
+  chosen-same h =
+      ap (eligible s) (setOf-same (tOf s) (λ t. ltb 0 (trigger s d i z t)) (λ t. ltb 0 (trigger s d j z t))
+      (λ t l. ap (ltb 0) (trigger-same t (λ on e. h t e l on))))
+
+-- ---- the modes are active, and what is active stays so
+
+module _ (s : List ℕ) where
+  ModesActive : TickSets → Type 0
+  ModesActive z = (m : ℕ) → T (has (z .modes) m) → T (has (z .active) m)
+
+  modes-active-step : (z : TickSets) (es : ℕ) → ModesActive z → ModesActive (afterRound s z es)
+  unfolding ModesActive
+  modes-active-step z es p m h =
+      subst T (sym (active-after s z es m))
+      (⊎-elim (λ k. or-l (has (z .active) m) (has (entering s es) m) (p m (and-l (has (z .modes) m) (not (has (exiting s z es) m)) k)))
+      (or-r (has (z .active) m) (has (entering s es) m))
+      (or-e (has (z .modes) m && not (has (exiting s z es) m)) (has (entering s es) m) (subst T (modes-after s z es m) h)))
+
+  pub active-stays : (d i f : ℕ) (z : TickSets) (r m : ℕ) → T (has (z .active) m) → T (has (roundsFrom s f d i z r .sets .active) m)
+  active-stays d i f z r m =
+      rounds-ind s d i (λ y _. T (has (y .active) m))
+      (λ y _ p _. subst T (sym (active-after s y (chosen s d i y) m)) (or-l (has (y .active) m) (has (entering s (chosen s d i y)) m) p)) f z r
+
+  -- a tick begins at power-on or from the set x
+  begin-by : (P : TickSets → Type 0) (x : ℕ)
+      → (x ≡ 0 → P (record { modes = complete s (single 0); entered = complete s (single 0); exited = 0; active = complete s (single 0); taken = 0 }))
+      → ((x ≡ 0 → ⊥) → P (record { modes = x; entered = 0; exited = 0; active = x; taken = 0 }))
+      → P (begin s x)
+  unfolding begin
+  begin-by P x f g = go (eqb x 0) refl
+    where
+      y : ℕ
+      y = complete s (single 0)
+
+      go : (b : Bool) → eqb x 0 ≡ b
+          → P (cond b (record { modes = y; entered = y; exited = 0; active = y; taken = 0 })
+          (record { modes = x; entered = 0; exited = 0; active = x; taken = 0 }))
+      go true e = f (eqb-true x 0 e)
+      go false e = g (eqb-false x 0 e)
+
+  pub begin-active : (x : ℕ) → begin s x .active ≡ begin s x .modes
+  begin-active x = begin-by (λ z. z .active ≡ z .modes) x (λ _. refl) (λ _. refl)
+
+-- ---- the rounds, and the tick
+
+module _ (s : List ℕ) (d i j : ℕ) where
+  -- the inputs agree on the events named by transitions with a source in x
+  Agree : ℕ → Type 0
+  Agree x = (t e : ℕ) → t < tOf s → T (has x (source s t)) → T (names s t e) → has i e ≡ has j e
+
+  rounds-same : (f : ℕ) (z : TickSets) (r : ℕ) → ModesActive s z → Agree (roundsFrom s f d i z r .sets .active)
+      → roundsFrom s f d i z r ≡ roundsFrom s f d j z r
+  unfolding roundsFrom
+  rounds-same zero z r p h = refl
+  rounds-same (suc f) z r p h =
+      go (eqb es 0) (ambiguous s es) (restless s z es) h (rounds-same f (afterRound s z es) (suc r) (modes-active-step s z es p))
+      ∙ ap (λ (us : ℕ). rest (eqb us 0) (ambiguous s us) (restless s z us) (roundsFrom s f d j (afterRound s z us) (suc r))) same
+    where
+      es : ℕ
+      es = chosen s d i z
+
+      rest : Bool → Bool → Bool → Tick → Tick
+      rest a b c on =
+          cond a (record { refusal = 0; sets = z; rounds = r })
+          (cond b (record { refusal = 8; sets = z; rounds = r }) (cond c (record { refusal = 9; sets = z; rounds = r }) on))
+
+      same : chosen s d i z ≡ chosen s d j z
+      same =
+          unfold Agree ModesActive in
+          (chosen-same s d i j z (λ t e l on. h t e l (active-stays s d i (suc f) z r (source s t) (p (source s t) on))))
+
+      after : Tick
+      after = roundsFrom s f d i (afterRound s z es) (suc r)
+
+      go : (a b c : Bool) → Agree (rest a b c after .sets .active)
+          → (Agree (after .sets .active) → after ≡ roundsFrom s f d j (afterRound s z es) (suc r))
+          → rest a b c after ≡ rest a b c (roundsFrom s f d j (afterRound s z es) (suc r))
+      go true b c k ih = refl
+      go false true c k ih = refl
+      go false false true k ih = refl
+      go false false false k ih = ih k
+
+pub named-events : NamedEvents
+unfolding NamedEvents tick Agree ModesActive
+named-events s x d i j h =
+    rounds-same s d i j (suc (tOf s)) (begin s x) 0 (λ m k. subst (λ (y : ℕ). T (has y m)) (sym (begin-active s x)) k) h
+
+-- ---- which modes are active in a tick
+
+union-assoc : (a b c : ℕ) → union (union a b) c ≡ union a (union b c)
+union-assoc a b c = same-members (λ i. simp (has-union, or-assoc))
+
+module _ (s : List ℕ) where
+  -- what some transitions enter, and others
+  pub entering-union : (a b : ℕ) → entering s (union a b) ≡ union (entering s a) (entering s b)
+  unfolding entering
+  entering-union a b = same-members (λ m. bool-ext (has (entering s (union a b)) m) (has (union (entering s a) (entering s b)) m) (apart m) (together m))
+    where
+      by : ℕ → ℕ → Bool
+      by m t = has (enters s t) m
+
+      among : ℕ → ℕ → Bool
+      among es m = someIn (tOf s) es (by m)
+
+      apart : (m : ℕ) → T (has (entering s (union a b)) m) → T (has (union (entering s a) (entering s b)) m)
+      apart m h =
+          let g = setOf-e (nOf s) (among (union a b)) m h in
+          let r = someIn-e (tOf s) (union a b) (by m) (g .1) in
+          ⊎-elim
+          (λ k. union-l (entering s a) (entering s b) m (setOf-i (nOf s) (among a) m (g .0) (someIn-i (tOf s) a (by m) (r .0) (r .1) k (r .3))))
+          (λ k. union-r (entering s a) (entering s b) m (setOf-i (nOf s) (among b) m (g .0) (someIn-i (tOf s) b (by m) (r .0) (r .1) k (r .3))))
+          (union-e a b (r .0) (r .2))
+
+      more : (es : ℕ) (m : ℕ) → ((t : ℕ) → T (has es t) → T (has (union a b) t)) → T (has (entering s es) m) → T (has (entering s (union a b)) m)
+      more es m up h =
+          let g = setOf-e (nOf s) (among es) m h in
+          let r = someIn-e (tOf s) es (by m) (g .1) in
+          setOf-i (nOf s) (among (union a b)) m (g .0) (someIn-i (tOf s) (union a b) (by m) (r .0) (r .1) (up (r .0) (r .2)) (r .3))
+
+      together : (m : ℕ) → T (has (union (entering s a) (entering s b)) m) → T (has (entering s (union a b)) m)
+      together m h = ⊎-elim (more a m (union-l a b)) (more b m (union-r a b)) (union-e (entering s a) (entering s b) m h)
+
+  entering-none : entering s 0 ≡ 0
+  unfolding entering
+  entering-none =
+      same-members (λ m. is-false (has (entering s 0) m) (λ h.
+      let r = someIn-e (tOf s) 0 (λ t. has (enters s t) m) (setOf-e (nOf s) (λ k. someIn (tOf s) 0 (λ t. has (enters s t) k)) m h .1) in
+      of-false (has-none (r .0)) (r .2)) ∙ sym (has-none m))
+
+  -- those it began with, and those entered by the transitions taken
+  pub active-is : (x d i : ℕ) → tick s x d i .sets .active ≡ union (begin s x .modes) (entering s (tick s x d i .sets .taken))
+  unfolding tick
+  active-is x d i =
+      rounds-ind s d i (λ z _. z .active ≡ union x′ (entering s (z .taken))) step (suc (tOf s)) (begin s x) 0
+      (begin-by s (λ z. z .active ≡ union (z .modes) (entering s (z .taken))) x (λ _. start _) (λ _. start _))
+    where
+      x′ : ℕ
+      x′ = begin s x .modes
+
+      start : (y : ℕ) → y ≡ union y (entering s 0)
+      start y = sym (ap (union y) entering-none ∙ or-zero-r y)
+
+      step : (z : TickSets) (r : ℕ) → z .active ≡ union x′ (entering s (z .taken)) → Taken s d i z
+          → afterRound s z (chosen s d i z) .active ≡ union x′ (entering s (afterRound s z (chosen s d i z) .taken))
+      step z r e _ = unfold afterRound in (
+        ap (λ (y : ℕ). union y (entering s (chosen s d i z))) e
+        ∙ union-assoc x′ (entering s (z .taken)) (entering s (chosen s d i z))
+        ∙ ap (union x′) (sym (entering-union (z .taken) (chosen s d i z)))
+      )
+
+  -- those it began with, and those entered
+  pub active-entered : (x d i : ℕ) → tick s x d i .sets .active ≡ union (begin s x .modes) (tick s x d i .sets .entered)
+  unfolding tick
+  active-entered x d i =
+      rounds-ind s d i (λ z _. z .active ≡ union x′ (z .entered)) step (suc (tOf s)) (begin s x) 0
+      (begin-by s (λ z. z .active ≡ union (z .modes) (z .entered)) x (λ _. sym (or-self _)) (λ _. sym (or-zero-r x)))
+    where
+      x′ : ℕ
+      x′ = begin s x .modes
+
+      step : (z : TickSets) (r : ℕ) → z .active ≡ union x′ (z .entered) → Taken s d i z
+          → afterRound s z (chosen s d i z) .active ≡ union x′ (afterRound s z (chosen s d i z) .entered)
+      step z r e _ = unfold afterRound in (
+        ap (λ (y : ℕ). union y (entering s (chosen s d i z))) e ∙ union-assoc x′ (z .entered) (entering s (chosen s d i z))
+      )
+
+-- every transition that is taken enters some mode: where none is entered none was taken, and the modes are those it began with
+pub entered-none : (s : List ℕ) → sheetRefusal s ≡ 0 → (x d i : ℕ) → (x ≡ 0 → ⊥) → tick s x d i .sets .entered ≡ 0 → tick s x d i .sets .modes ≡ x
+unfolding tick
+entered-none s h x d i n =
+    rounds-ind s d i (λ z _. z .entered ≡ 0 → z .modes ≡ x) step (suc (tOf s)) (begin s x) 0
+    (begin-by s (λ z. z .entered ≡ 0 → z .modes ≡ x) x (λ e _. absurd (n e)) (λ _ _. refl))
+  where
+    sd : Sound s
+    sd = sound s h
+
+    step : (z : TickSets) (r : ℕ) → (z .entered ≡ 0 → z .modes ≡ x) → Taken s d i z
+        → afterRound s z (chosen s d i z) .entered ≡ 0 → afterRound s z (chosen s d i z) .modes ≡ x
+    step z r _ taken e =
+        let es = chosen s d i z in
+        let t = chosen-member s d i z (taken .filled) in
+        let m = enterTop s (t .0) in
+        let k = entering-i s sd es (t .0) m (t .1) (t .2) (enters-whole s sd (t .0) (t .1) .top) in
+        absurd (of-false (ap (λ (y : ℕ). has y m) e ∙ has-none m) (subst T (sym (entered-after s z es m)) (or-r (has (z .entered) m) (has (entering s es) m) k)))
