@@ -1,17 +1,16 @@
 -- A tick depends on its input only through the events that transitions with an active source name; which modes are active in a tick.
 -- Assumes nothing.
 use mathlib.Core.Path.{_≡_, refl, sym, ap, ap₂, _∙_, subst}
-use mathlib.Core.Logic.{_⊎_, inl, inr, ⊎-elim}
+use mathlib.Core.Logic.{⊎-elim}
 use mathlib.Core.Bool.{Bool, true, false, not, _&&_, _||_, cond, or-assoc}
 use mathlib.Core.List.{List, [], _∷_, map}
 use Prim.Native.Nat.{ℕ, zero, suc, _+_, _<_}
-use native.Mathlib.Nat.{zero-add}
 use native.Mathlib.Omega.{arith}
 use lib.Dec.{T, eqb, ltb, eqb-refl}
 use lib.ListN.{drop, getD}
 use lib.Bits.{or-zero-r, or-self}
 use borrow.Author.Tests.{eqb-true, eqb-false}
-use Rattle.sets.specs.Sets.{has, union, minus, single, someIn}
+use Rattle.sets.specs.Sets.{has, union, single, someIn}
 use Rattle.sets.proofs.Tests.{is-false, of-false, and-l, and-i, or-e, or-l, or-r, bool-ext}
 use Rattle.sets.proofs.Facts.{union-e, union-l, union-r, setOf-e, setOf-i, some-i, someIn-e, someIn-i}
 use Rattle.sets.proofs.Membership.{has-none, has-union, same-members, setOf-same}
@@ -23,7 +22,7 @@ use Rattle.meaning.specs.Reaction.{TickSets, isDelay, delay, holds, inFi
 use Rattle.meaning.specs.Tick.{Tick, begin, chosen, roundsFrom, tick}
 use Rattle.meaning.specs.NamedEvents.{names, NamedEvents}
 use Rattle.meaning.proofs.SheetLaws.{Sound, sound}
-use Rattle.meaning.proofs.TickLaws.{Taken, rounds-ind, chosen-member, modes-after, entered-after, active-after, taken-after}
+use Rattle.meaning.proofs.TickLaws.{Taken, rounds-ind, chosen-member, modes-after, entered-after, active-after}
 use Rattle.meaning.proofs.Consistency.{enterTop, enters-whole, entering-i}
 
 -- ---- where each term of t says the same, the same alternative holds
@@ -108,10 +107,10 @@ module _ (s : List ℕ) (d i j : ℕ) (z : TickSets) where
 
 -- ---- the modes are active, and what is active stays so
 
-module _ (s : List ℕ) where
-  ModesActive : TickSets → Type 0
-  ModesActive z = (m : ℕ) → T (has (z .modes) m) → T (has (z .active) m)
+ModesActive : TickSets → Type 0
+ModesActive z = (m : ℕ) → T (has (z .modes) m) → T (has (z .active) m)
 
+module _ (s : List ℕ) where
   modes-active-step : (z : TickSets) (es : ℕ) → ModesActive z → ModesActive (afterRound s z es)
   unfolding ModesActive
   modes-active-step z es p m h =
@@ -145,6 +144,15 @@ module _ (s : List ℕ) where
   pub begin-active : (x : ℕ) → begin s x .active ≡ begin s x .modes
   begin-active x = begin-by (λ z. z .active ≡ z .modes) x (λ _. refl) (λ _. refl)
 
+  modes-active-begin : (x : ℕ) → ModesActive (begin s x)
+  unfolding ModesActive
+  modes-active-begin x m h = subst (λ (y : ℕ). T (has y m)) (sym (begin-active x)) h
+
+  pub modes-active : (x d i m : ℕ) → T (has (tick s x d i .sets .modes) m) → T (has (tick s x d i .sets .active) m)
+  unfolding tick ModesActive
+  modes-active x d i =
+      rounds-ind s d i (λ z _. ModesActive z) (λ z _ p _. modes-active-step z (chosen s d i z) p) (suc (tOf s)) (begin s x) 0 (modes-active-begin x)
+
 -- ---- the rounds, and the tick
 
 module _ (s : List ℕ) (d i j : ℕ) where
@@ -152,7 +160,7 @@ module _ (s : List ℕ) (d i j : ℕ) where
   Agree : ℕ → Type 0
   Agree x = (t e : ℕ) → t < tOf s → T (has x (source s t)) → T (names s t e) → has i e ≡ has j e
 
-  rounds-same : (f : ℕ) (z : TickSets) (r : ℕ) → ModesActive s z → Agree (roundsFrom s f d i z r .sets .active)
+  rounds-same : (f : ℕ) (z : TickSets) (r : ℕ) → ModesActive z → Agree (roundsFrom s f d i z r .sets .active)
       → roundsFrom s f d i z r ≡ roundsFrom s f d j z r
   unfolding roundsFrom
   rounds-same zero z r p h = refl
@@ -185,9 +193,8 @@ module _ (s : List ℕ) (d i j : ℕ) where
       go false false false k ih = ih k
 
 pub named-events : NamedEvents
-unfolding NamedEvents tick Agree ModesActive
-named-events s x d i j h =
-    rounds-same s d i j (suc (tOf s)) (begin s x) 0 (λ m k. subst (λ (y : ℕ). T (has y m)) (sym (begin-active s x)) k) h
+unfolding NamedEvents tick Agree
+named-events s x d i j h = rounds-same s d i j (suc (tOf s)) (begin s x) 0 (modes-active-begin s x) h
 
 -- ---- which modes are active in a tick
 
@@ -247,10 +254,10 @@ module _ (s : List ℕ) where
       step : (z : TickSets) (r : ℕ) → z .active ≡ union x′ (entering s (z .taken)) → Taken s d i z
           → afterRound s z (chosen s d i z) .active ≡ union x′ (entering s (afterRound s z (chosen s d i z) .taken))
       step z r e _ = unfold afterRound in (
-        ap (λ (y : ℕ). union y (entering s (chosen s d i z))) e
-        ∙ union-assoc x′ (entering s (z .taken)) (entering s (chosen s d i z))
-        ∙ ap (union x′) (sym (entering-union (z .taken) (chosen s d i z)))
-      )
+          ap (λ (y : ℕ). union y (entering s (chosen s d i z))) e
+          ∙ union-assoc x′ (entering s (z .taken)) (entering s (chosen s d i z))
+          ∙ ap (union x′) (sym (entering-union (z .taken) (chosen s d i z)))
+          )
 
   -- those it began with, and those entered
   pub active-entered : (x d i : ℕ) → tick s x d i .sets .active ≡ union (begin s x .modes) (tick s x d i .sets .entered)
@@ -265,8 +272,8 @@ module _ (s : List ℕ) where
       step : (z : TickSets) (r : ℕ) → z .active ≡ union x′ (z .entered) → Taken s d i z
           → afterRound s z (chosen s d i z) .active ≡ union x′ (afterRound s z (chosen s d i z) .entered)
       step z r e _ = unfold afterRound in (
-        ap (λ (y : ℕ). union y (entering s (chosen s d i z))) e ∙ union-assoc x′ (z .entered) (entering s (chosen s d i z))
-      )
+          ap (λ (y : ℕ). union y (entering s (chosen s d i z))) e ∙ union-assoc x′ (z .entered) (entering s (chosen s d i z))
+          )
 
 -- every transition that is taken enters some mode: where none is entered none was taken, and the modes are those it began with
 pub entered-none : (s : List ℕ) → sheetRefusal s ≡ 0 → (x d i : ℕ) → (x ≡ 0 → ⊥) → tick s x d i .sets .entered ≡ 0 → tick s x d i .sets .modes ≡ x

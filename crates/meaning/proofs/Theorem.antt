@@ -14,6 +14,7 @@ use Rattle.meaning.proofs.ServedLaws.{served-from-power-on}
 use Rattle.meaning.proofs.WholeListLaws.{served-each}
 use Rattle.meaning.proofs.StateLaws.{sheet-state-stays, table-state-stays, sheet-runs-on, table-runs-on, faithful-not-stale}
 use Rattle.meaning.proofs.HighestLevel.{highest-level-first}
+use Rattle.meaning.proofs.NamedLaws.{named-events}
 use Rattle.meaning.proofs.WithinLaws.{mask-exact, mask-no-other, conflict-by-mask, gives-way-by-mask}
 use Rattle.meaning.proofs.MillisecondsLaws.{whole-delay, rest-below, ticks-fit}
 use Rattle.meaning.proofs.SheetLaws.{sound}
@@ -61,6 +62,7 @@ promised =
       compiledFaithful = compiled-faithful;
       faithfulServes = faithful-serves;
       highestLevelFirst = highest-level-first;
+      namedEvents = named-events;
       maskExact = mask-exact;
       maskNoOther = mask-no-other;
       conflictByMask = conflict-by-mask;

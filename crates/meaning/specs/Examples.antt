@@ -6,6 +6,7 @@ use mathlib.Core.List.{List, [], _∷_, _++_}
 use Prim.Native.Nat.{ℕ, _+_, _-_, _^_}
 use lib.ListN.{replicate}
 use Rattle.meaning.specs.Lists.{rowFrom}
+use Rattle.meaning.specs.Tick.{tick}
 use Rattle.meaning.specs.Run.{powerOn}
 use Rattle.meaning.specs.SheetRun.{sheetRun}
 use Rattle.meaning.specs.Table.{tableOk}
@@ -14,6 +15,7 @@ use Rattle.meaning.specs.Compile.{compile}
 use Rattle.meaning.specs.Within.{masksOf}
 use Rattle.meaning.specs.Milliseconds.{milliseconds}
 use Rattle.meaning.specs.Faithful.{faithful}
+use Rattle.meaning.specs.NamedEvents.{names}
 use Rattle.meaning.specs.Charts.{atomic, serial, parallel, after, present, absent, taken, transition, sheetOf, rings}
 use Rattle.meaning.specs.Opened.{opened}
 
@@ -59,6 +61,10 @@ two-modes = serial 0 1 ∷ atomic 0 ∷ atomic 0 ∷ []
 -- 1→2 and 2→1 both on event 0
 abbrev to-and-fro : List ℕ
 to-and-fro = sheetOf 1 two-modes (transition 1 2 (present 0) ∷ transition 2 1 (present 0) ∷ [])
+
+-- 1→2 on event 0, 2→1 where event 1 is absent
+abbrev two-events : List ℕ
+two-events = sheetOf 2 two-modes (transition 1 2 (present 0) ∷ transition 2 1 (absent 1) ∷ [])
 
 -- 1→2 and 1→3, each on its term
 abbrev fork : List ℕ → List ℕ → List ℕ
@@ -173,6 +179,14 @@ pub record Examples : Type 0 where
   pub tick-of-0 : milliseconds 0 [] (lent 1) ≡ record { refusal = 20; results = lent 1 }
   pub most-ticks : milliseconds 10 (5 ∷ 655359 ∷ []) (lent 4) ≡ record { refusal = 0; results = 0 ∷ 5 ∷ 65535 ∷ 9 ∷ [] }
   pub too-many-ticks : milliseconds 10 (5 ∷ 655360 ∷ []) (lent 4) ≡ record { refusal = 20; results = lent 4 }
+  -- the events that a transition names. Event 1 is named by 2→1 alone: it makes no difference to a tick in which mode 2 is not active, and
+  -- it does to one in which it is.
+  pub names-present : names two-events 0 0 ≡ true
+  pub names-absent : names two-events 1 1 ≡ true
+  pub names-no-other : names two-events 0 1 ≡ false
+  pub not-named : tick two-events 3 0 0 ≡ tick two-events 3 0 2
+  pub named-once-active : tick two-events 3 0 1 .refusal ≡ 9
+  pub named-present : tick two-events 3 0 3 .refusal ≡ 0
   -- taken, triggered again and giving way: not among the document's examples
   pub outer-taken : sheetRun outer-first powerOn (0 ∷ 1 ∷ []) (lent 10) .out ≡ 7 ∷ 0 ∷ 7 ∷ 0 ∷ 0 ∷ 28 ∷ 14 ∷ 31 ∷ 7 ∷ 0 ∷ []
   -- sets as the round began, and a round against a step of document 002: not among the document's examples either
@@ -221,6 +235,12 @@ examples =
       tick-of-0 = refl;
       most-ticks = refl;
       too-many-ticks = refl;
+      names-present = refl;
+      names-absent = refl;
+      names-no-other = refl;
+      not-named = refl;
+      named-once-active = refl;
+      named-present = refl;
       outer-taken = refl;
       judged-as-began = refl;
       round-not-step = refl;

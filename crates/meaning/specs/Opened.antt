@@ -17,6 +17,7 @@ use Rattle.meaning.specs.TableRun.{dueNumber, tableStateOk, cellOf, stat
 use Rattle.meaning.specs.Compile.{dueSet, pairsFrom, workListFull, timersMany, cellCount, cellTick, listing, cellsFrom, walkFrom, walk, timerWord, cellWords, blockWords, tableWords, compileRefusal, compile}
 use Rattle.meaning.specs.Milliseconds.{ticksAndRests, resultsShort, ticksOutOfRange, milliseconds}
 use Rattle.meaning.specs.Faithful.{cellFaithful, blockFaithful, faithful}
+use Rattle.meaning.specs.NamedEvents.{names}
 
 unfoldable in-sets : Unit {0}
 unfolding digit has minus setOf those members size some every someIn everyIn
@@ -82,6 +83,10 @@ unfoldable in-faithful : Unit {0}
 unfolding cellFaithful blockFaithful faithful
 in-faithful = tt
 
+unfoldable in-named-events : Unit {0}
+unfolding names
+in-named-events = tt
+
 unfoldable pub opened : Unit {0}
-unfolding in-sets in-lists in-sheet in-check in-hierarchy in-gives-way in-reaction in-within in-tick in-run in-sheet-run in-table in-table-run in-compile in-milliseconds in-faithful
+unfolding in-sets in-lists in-sheet in-check in-hierarchy in-gives-way in-reaction in-within in-tick in-run in-sheet-run in-table in-table-run in-compile in-milliseconds in-faithful in-named-events
 opened = tt

@@ -23,6 +23,7 @@ use Rattle.meaning.specs.OneByOne.{Reaction, isTriggered, eligibleIn, ta
 use Rattle.meaning.specs.Compile.{walkFrom, walk}
 use Rattle.meaning.specs.Faithful.{faithful, FaithfulServes, CompiledFaithful}
 use Rattle.meaning.specs.HighestLevelFirst.{HighestLevelFirst}
+use Rattle.meaning.specs.NamedEvents.{NamedEvents}
 use Rattle.meaning.specs.Within.{MaskExact, MaskNoOther, ConflictByMask, GivesWayByMask}
 use Rattle.meaning.specs.Milliseconds.{WholeDelay, RestBelow, TicksFit}
 
@@ -139,6 +140,7 @@ pub record Promised : Type 0 where
   pub compiledFaithful : CompiledFaithful
   pub faithfulServes : FaithfulServes
   pub highestLevelFirst : HighestLevelFirst
+  pub namedEvents : NamedEvents
   pub maskExact : MaskExact
   pub maskNoOther : MaskNoOther
   pub conflictByMask : ConflictByMask
