@@ -81,7 +81,7 @@ module _ (s : List ℕ) (d i j : ℕ) (z : TickSets) where
   names-term : (t p : ℕ) → p < termCount s t → T (eqb (termKind s t p) 1 || eqb (termKind s t p) 2) → T (names s t (termValue s t p))
   unfolding names
   names-term t p l h =
-      some-i (termCount s t) (λ u. (eqb (termKind s t u) 1 || eqb (termKind s t u) 2) && eqb (termValue s t u) (termValue s t p)) p l
+      some-i (termCount s t) _ p l
       (and-i (eqb (termKind s t p) 1 || eqb (termKind s t p) 2) (eqb (termValue s t p) (termValue s t p)) h (eqb-refl (termValue s t p)))
 
   -- a transition whose source is not active asks for no agreement
