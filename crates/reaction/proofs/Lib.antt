@@ -2,3 +2,4 @@ pub mod PlanLaws
 pub mod TermLaws
 pub mod TriggerLaws
 pub mod RoundLaws
+pub mod NextLaws
