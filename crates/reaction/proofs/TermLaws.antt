@@ -73,7 +73,7 @@ module _ (s : List ℕ) (h : sheetRefusal s ≡ 0) (t j : ℕ) (l : t < tOf s) (
   value-small = kind-small s t j (termKind s t j) (k-le s (sound s h)) (n-le s (sound s h)) (t-le s (sound s h)) (met-at (termKind s t j) refl)
 
   -- the number of an event, and a mask
-  pub event-lt : (termKind s t j ≡ 1) ⊎ (termKind s t j ≡ 2) → termValue s t j < 6
+  event-lt : (termKind s t j ≡ 1) ⊎ (termKind s t j ≡ 2) → termValue s t j < 6
   unfolding kindOk
   event-lt (inl e) = omega (arith, k-le s (sound s h), ltb→lt (termValue s t j) (kOf s) (met-at 1 e))
   event-lt (inr e) = omega (arith, k-le s (sound s h), ltb→lt (termValue s t j) (kOf s) (met-at 2 e))
