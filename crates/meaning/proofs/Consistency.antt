@@ -549,6 +549,17 @@ module _ (s : List ℕ) (sd : Sound s) where
           bound : y < 2 ^ nOf s
           bound = unfold consistent in (ltb→lt y (2 ^ nOf s) (allOf-e _ k .0))
 
+  -- a round that is taken leaves a consistent set
+  pub consistent-after : (d i : ℕ) (z : TickSets) → T (consistent s (z .modes)) → Taken s d i z
+      → T (consistent s (afterRound s z (chosen s d i z) .modes))
+  unfolding Well
+  consistent-after d i z h taken =
+      let w = well-step d i z 0 (cons-e (z .modes) h, bound) taken in
+      cons-i (afterRound s z (chosen s d i z) .modes) (w .1) (w .0)
+    where
+      bound : z .modes < 2 ^ nOf s
+      bound = unfold consistent in (ltb→lt (z .modes) (2 ^ nOf s) (allOf-e _ h .0))
+
   -- a tick from power-on or from a consistent set leaves a consistent set
   pub keeps-consistent : (y d i : ℕ) → (y ≡ 0) ⊎ T (consistent s y) → T (consistent s (tick s y d i .sets .modes))
   unfolding tick Well

@@ -2,22 +2,24 @@
 use mathlib.Core.Path.{_≡_}
 use mathlib.Core.Logic.{⊎-elim}
 use mathlib.Core.Bool.{not}
+use mathlib.Core.List.{List}
 use Prim.Native.Nat.{ℕ, _<_}
 use native.Mathlib.Omega.{arith}
 use lib.Dec.{T, eqb}
 use Rattle.sets.specs.Sets.{has}
 use Rattle.sets.proofs.Tests.{and-r}
 use Rattle.meaning.specs.Sheet.{tOf, source, contains, strictlyContains, meeting}
-use Rattle.meaning.specs.Hierarchy.{exits}
+use Rattle.meaning.specs.Check.{sheetRefusal}
+use Rattle.meaning.specs.Hierarchy.{consistent, exits}
 use Rattle.meaning.specs.GivesWay.{givesWay}
-use Rattle.meaning.specs.Reaction.{triggered, exiting}
+use Rattle.meaning.specs.Reaction.{TickSets, triggered, exiting}
 use Rattle.meaning.specs.Tick.{chosen}
 use Rattle.meaning.specs.HighestLevelFirst.{EligibleOrGivesWay, GivesWayExited, HighestLevelFirst}
 use Rattle.meaning.proofs.SheetLaws.{Sound, sound, tree, source-lt}
-use Rattle.meaning.proofs.Containment.{Within, contains-e, within-trans, strictly-lt, meeting-lt, meeting-source, within-le}
-use Rattle.meaning.proofs.GivesWayLaws.{equal-stay, gives-way-in-conflict, conflict-is-equal, eligible-or-gives-way, eligible-stays}
+use Rattle.meaning.proofs.Containment.{Within, contains-e, within-trans, strictly-lt, meeting-lt, meeting-source, within-le, ends}
+use Rattle.meaning.proofs.GivesWayLaws.{equal-stay, gives-way-in-conflict, conflict-is-equal, eligible-or-gives-way, eligible-stays, eligible-among}
 use Rattle.meaning.proofs.TickLaws.{triggered-lt, chosen-lt, triggered-e}
-use Rattle.meaning.proofs.Consistency.{cons-e, source-on, chosen-on, exited-within, exiting-i}
+use Rattle.meaning.proofs.Consistency.{cons-e, source-on, chosen-on, exited-within, exits-i, exiting-i}
 use Rattle.meaning.proofs.StateLaws.{no-reading-zero}
 
 eligible-or-gives : EligibleOrGivesWay
@@ -68,6 +70,24 @@ gives-way-exited s h d i z con t u a b g =
         out =
             exited-within s sd (cons-e s sd (z .modes) con) v (chosen-lt s d i z v m) (chosen-on s sd z d i v m) (source s t) (source-lt s sd t l) on
             (within-trans above own) ne
+
+-- so the source of each triggered transition is exited: an eligible one exits its own
+pub source-exited : (s : List ℕ) → sheetRefusal s ≡ 0 → (d i : ℕ) (z : TickSets) → T (consistent s (z .modes))
+    → (t : ℕ) → T (has (triggered s d i z) t) → T (has (exiting s z (chosen s d i z)) (source s t))
+unfolding EligibleOrGivesWay GivesWayExited chosen
+source-exited s h d i z con t a =
+    ⊎-elim own (λ v. gives-way-exited s h d i z con t (v .0) a (eligible-among s (triggered s d i z) (v .0) (v .1)) (v .2)) (eligible-or-gives s h d i z t a)
+  where
+    sd : Sound s
+    sd = sound s h
+
+    l : t < tOf s
+    l = triggered-lt s d i z t a
+
+    own : T (has (chosen s d i z) t) → T (has (exiting s z (chosen s d i z)) (source s t))
+    own m =
+        exiting-i s sd z (chosen s d i z) t (source s t) l m (exits-i s sd t (source s t) (source-lt s sd t l) (ends s sd t l .left .holds))
+        (chosen-on s sd z d i t m)
 
 pub highest-level-first : HighestLevelFirst
 highest-level-first =

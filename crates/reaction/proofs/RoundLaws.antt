@@ -141,11 +141,11 @@ module _ (s : List ℕ) where
 
   -- ---- 8 and 9
 
-  clash : (es : ℕ) (m : Moves) → MovesOf s es m → meets (m .clashes) es ≡ ambiguous s es
+  -- some of es are in conflict with others of es
+  pub clashes-ambiguous : (es : ℕ) → meets (setOf (tOf s) (λ u. someIn (tOf s) es (λ t. has (conflictsOf s t) u))) es ≡ ambiguous s es
   unfolding ambiguous conflictsOf someIn
-  clash es m h =
-      ap (λ (x : ℕ). meets x es) (h .clashes)
-      ∙ meets-some (tOf s) (setOf (tOf s) c) es (setOf-lt (tOf s) c)
+  clashes-ambiguous es =
+      meets-some (tOf s) (setOf (tOf s) c) es (setOf-lt (tOf s) c)
       ∙ some-same (tOf s) (λ u. has (setOf (tOf s) c) u && has es u) (λ u. has es u && c u)
       (λ u l. and-comm (has (setOf (tOf s) c) u) (has es u) ∙ ap (λ (b : Bool). has es u && b) (has-setOf (tOf s) c u l))
       ∙ someIn-swap (tOf s) (tOf s) es es (λ u t. has (conflictsOf s t) u)
@@ -157,6 +157,9 @@ module _ (s : List ℕ) where
 
       apart : ℕ → ℕ → Bool
       apart t u = not (eqb t u) && conflict s t u
+
+  clash : (es : ℕ) (m : Moves) → MovesOf s es m → meets (m .clashes) es ≡ ambiguous s es
+  clash es m h = ap (λ (x : ℕ). meets x es) (h .clashes) ∙ clashes-ambiguous es
 
   taken-again : (z : TickSets) (es : ℕ) → es < 2 ^ tOf s → meets es (z .taken) ≡ restless s z es
   unfolding restless someIn

@@ -81,7 +81,7 @@ module _ (s : List ℕ) (h : sheetRefusal s ≡ 0) (t j : ℕ) (l : t < tOf s) (
   event-small : termKind s t j ≡ 2 → termValue s t j < 32
   event-small e = omega (arith, event-lt (inr e))
 
-  mask-lt : termKind s t j ≡ 3 → termValue s t j < 2 ^ nOf s
+  pub mask-lt : termKind s t j ≡ 3 → termValue s t j < 2 ^ nOf s
   unfolding kindOk
   mask-lt e = ltb→lt (termValue s t j) (2 ^ nOf s) (and-r (ltb 0 (termValue s t j)) (ltb (termValue s t j) (2 ^ nOf s)) (met-at 3 e))
 
@@ -216,7 +216,7 @@ and-none [] = refl
 and-none (b ∷ l) = refl
 
 module _ (s : List ℕ) (i : ℕ) (z : TickSets) (b : i < 2 ^ 32) where
-  none-by : (c v : ℕ) → holdsBy (factsOf i z) (suc (suc (suc (suc (suc (suc (suc (suc c)))))))) v ≡ false
+  pub none-by : (c v : ℕ) → holdsBy (factsOf i z) (suc (suc (suc (suc (suc (suc (suc (suc c)))))))) v ≡ false
   unfolding holdsBy
   none-by c v = rw (above-not 7 (suc (suc (suc (suc (suc (suc (suc (suc c)))))))) 3 (omega arith) tt) (has-none v)
 

@@ -38,7 +38,7 @@ module _ (s : List ℕ) where
       (λ t l. has-none t ∙ sym (ap (λ (b : Bool). b && not (has (z .entered) (source s t))) (has-none t)))
 
   -- the sets at power-on: the root completed is entered and active
-  abbrev powered : ℕ → ℕ → Sets
+  abbrev pub powered : ℕ → ℕ → Sets
   powered start live = record { modes = start; entered = start; exited = 0; active = start; taken = 0; live = live; due = 0 }
 
   pub power-on-begins : (start live : ℕ) → start ≡ complete s (single 0) → setsOf (powered start live) ≡ begin s 0

@@ -1,8 +1,8 @@
 -- What a set or a bounded test says of a number, and how it is shown, as facts: a name that ends in -e takes a fact apart, one in -i shows it.
 -- Each is over the width w. Assumes nothing.
-use mathlib.Core.Path.{_≡_, sym, subst}
+use mathlib.Core.Path.{_≡_, sym, _∙_, subst}
 use mathlib.Core.Logic.{_⊎_, inl, inr}
-use mathlib.Core.Bool.{Bool, true, false, not, _&&_, _||_}
+use mathlib.Core.Bool.{Bool, true, false, not, _&&_, _||_, or-false}
 use mathlib.Core.List.{List}
 use Prim.Native.Nat.{ℕ, zero, suc, _+_, _^_, _≤_, _<_, zero-le}
 use native.Mathlib.Nat.{le-refl, not-suc-le-zero, le-of-suc-le-suc, eq-or-lt-of-le, lt-of-not-le}
@@ -11,7 +11,7 @@ use native.Mathlib.Omega.{arith}
 use lib.Dec.{T, eqb→eq, eqb-refl}
 use lib.ListN.{length}
 use Rattle.sets.specs.Sets.{has, union, single, setOf, those, membersFrom, members, prepend, size, some, every, someIn, everyIn}
-use Rattle.sets.proofs.Tests.{of-false, and-l, and-r, and-i, or-e, or-l, or-r, implied, implies}
+use Rattle.sets.proofs.Tests.{is-false, of-false, and-l, and-r, and-i, or-e, or-l, or-r, implied, implies}
 use Rattle.sets.proofs.Membership.{has-above, has-union, has-single, has-setOf, setOf-lt, has-those, those-lt}
 
 -- a member of a set of w bits is below w
@@ -32,6 +32,9 @@ union-l a b i h = subst T (sym (has-union a b i)) (or-l (has a i) (has b i) h)
 
 pub union-r : (a b i : ℕ) → T (has b i) → T (has (union a b) i)
 union-r a b i h = subst T (sym (has-union a b i)) (or-r (has a i) (has b i) h)
+
+pub union-absent : (a b i : ℕ) → (T (has b i) → ⊥) → has (union a b) i ≡ has a i
+union-absent a b i n = has-union a b i ∙ rw (is-false (has b i) n) (or-false (has a i))
 
 pub single-e : (m i : ℕ) → T (has (single m) i) → i ≡ m
 single-e m i h = eqb→eq i m (subst T (has-single m i) h)

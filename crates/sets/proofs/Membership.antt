@@ -62,7 +62,7 @@ ext (suc w) {a} {b} ha hb e =
     let low : a % 2 ≡ b % 2 = same-digit (a % 2) (b % 2) (mod-lt a two-pos) (mod-lt b two-pos) (sym (has-0 a) ∙ e 0 (zero-lt-suc w) ∙ has-0 b) in
     omega arith
 
-lt-two-pow : (x : ℕ) → x < 2 ^ x
+pub lt-two-pow : (x : ℕ) → x < 2 ^ x
 lt-two-pow zero = omega arith
 lt-two-pow (suc x) = omega (arith, pow-suc 2 x, lt-two-pow x)
 

@@ -12,8 +12,8 @@ use lib.ListN.{length}
 use borrow.Author.Tests.{eq-eqb, ne-eqb}
 use Rattle.sets.specs.Sets.{has, union, meet, minus, single, meets, setOf, some, every, someIn, everyIn, members, membersFrom, prepend, size, lowest}
 use Rattle.sets.proofs.Tests.{is-true, is-false, of-true, of-false, and-l, and-r, and-i, bool-ext}
-use Rattle.sets.proofs.Membership.{ext, has-none, has-meet, has-union, has-single, has-minus, has-setOf, setOf-lt, single-lt, meet-le, minus-le}
-use Rattle.sets.proofs.Facts.{setOf-i, some-e, some-i, someIn-e, someIn-i, every-e, every-i, everyIn-e, everyIn-i}
+use Rattle.sets.proofs.Membership.{ext, lt-two-pow, has-none, has-meet, has-union, has-single, has-minus, has-setOf, setOf-lt, single-lt, meet-le, minus-le}
+use Rattle.sets.proofs.Facts.{union-e, union-l, setOf-i, some-e, some-i, someIn-e, someIn-i, every-e, every-i, everyIn-e, everyIn-i}
 use Rattle.sets.proofs.Members.{Turn, Lowest, fold, lowest-member, empty, without-other, members-lowest, members-none, minus-member}
 
 -- ---- some number below n has p
@@ -88,6 +88,25 @@ meets-some w a b h = bool-ext (meets a b) (some w (λ i. has a i && has b i)) fo
         let r = some-e w (λ i. has a i && has b i) s in
         not-T (eqb (meet a b) 0)
         (λ e. of-false (sym (has-meet a b (r .0)) ∙ ap (λ (x : ℕ). has x (r .0)) (eqb→eq (meet a b) 0 e) ∙ has-none (r .0)) (r .2))
+
+pub meets-e : (a b : ℕ) → T (meets a b) → (i : ℕ) × T (has a i) × T (has b i)
+meets-e a b h =
+    let r = some-e a (λ i. has a i && has b i) (subst T (meets-some a a b (lt-two-pow a)) h) in
+    (r .0, and-l (has a (r .0)) (has b (r .0)) (r .2), and-r (has a (r .0)) (has b (r .0)) (r .2))
+
+pub meets-i : (a b i : ℕ) → T (has a i) → T (has b i) → T (meets a b)
+meets-i a b i h k =
+    not-T (eqb (meet a b) 0)
+    (λ e. of-false (sym (has-meet a b i) ∙ ap (λ (x : ℕ). has x i) (eqb→eq (meet a b) 0 e) ∙ has-none i) (and-i (has a i) (has b i) h k))
+
+-- what v does not meet adds nothing
+pub meets-union : (v a b : ℕ) → (T (meets v b) → ⊥) → meets v (union a b) ≡ meets v a
+meets-union v a b n =
+    bool-ext (meets v (union a b)) (meets v a)
+    (λ h.
+    let r = meets-e v (union a b) h in
+    ⊎-elim (λ k. meets-i v a (r .0) (r .1) k) (λ k. absurd (n (meets-i v b (r .0) (r .1) k))) (union-e a b (r .0) (r .2)))
+    (λ h. let r = meets-e v a h in meets-i v (union a b) (r .0) (r .1) (union-l a b (r .0) (r .2)))
 
 -- ---- a less b is empty where every member of a is in b
 
