@@ -1,2 +1,3 @@
 pub mod SearchLaws
+pub mod IndexLaws
 pub mod NextDueLaws

@@ -1,5 +1,6 @@
 -- The structs of a tick as the sets and ticks of the meaning. Assumes nothing.
 use mathlib.Core.Path.{_≡_}
+use mathlib.Core.Logic.{_⊎_}
 use mathlib.Core.Bool.{cond}
 use mathlib.Core.List.{List}
 use Prim.Native.Nat.{ℕ, zero, suc, _+_, _%_, _^_, _<_}
@@ -8,7 +9,7 @@ use lib.ListN.{getD}
 use Rattle.sets.specs.Sets.{has, union, meet, minus, setOf, someIn}
 use Rattle.meaning.specs.Sheet.{nOf, tOf}
 use Rattle.meaning.specs.Refusal.{numberOf}
-use Rattle.meaning.specs.Hierarchy.{exits}
+use Rattle.meaning.specs.Hierarchy.{consistent, exits}
 use Rattle.meaning.specs.Reaction.{TickSets, isTimer, isDue, triggered, eligible, ambiguous, restless, entering, afterRound}
 use Rattle.meaning.specs.Tick.{Tick}
 use Rattle.reaction.specs.Plan.{exitsPart, entersPart, conflictsPart, losesPart, gainsPart, sourcesIn, conflictsOf}
@@ -77,6 +78,10 @@ pub record Before (s : List ℕ) (modes live due : ℕ) : Type 0 where
   pub small : due < 2 ^ tOf s
   pub timing : (t : ℕ) → T (has due t) → T (isTimer s t)
   pub none : modes ≡ 0 → due ≡ 0
+
+-- a mode set that a tick begins from: power-on's 0, or a consistent one
+abbrev pub Known : List ℕ → ℕ → Type 0
+Known s x = (x ≡ 0) ⊎ T (consistent s x)
 
 -- the rounds of a tick from the triggered transitions ts on: as `roundsFrom`, but timers are due in the first round only
 module _ (s : List ℕ) where
