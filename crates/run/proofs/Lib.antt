@@ -4,3 +4,4 @@ pub mod ReadingTests
 pub mod DeadlineLaws
 pub mod LoopLaws
 pub mod DueNumberLaws
+pub mod DueSoonLaws

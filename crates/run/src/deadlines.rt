@@ -1,5 +1,6 @@
 // Readings during a run: for each timer its deadline, the tick, counted from 1 in the call, in which its reading is 0.
 ghost use mathlib.Core.Path.{_≡_};
+ghost use mathlib.Core.Logic.{_⊎_};
 ghost use mathlib.Core.Bool.{cond, true};
 ghost use Prim.Native.Nat.{ℕ, _+_, _-_, _%_, _^_, _<_, _≤_};
 ghost use lib.Dec.{eqb};
@@ -61,6 +62,33 @@ pub fn due(ends: &[u64; 64], timers: u64, tick: u64) -> DueTimers
         rest = transitions::without_lowest(rest);
     }
     DueTimers { set, number }
+}
+
+// The timers of a set that are due in a tick, and a tick before which no other of them is due.
+pub struct DueSoon {
+    pub set: u64,
+    pub next: u64,
+}
+
+pub fn due_soon(ends: &[u64; 64], timers: u64, tick: u64) -> DueSoon
+    ensures { λ r. ⌜
+        (r .set ≡ those 64 timers (λ t. eqb (getD (now (ends .entry)) t 0) tick))
+        × ((t : ℕ) → has timers t ≡ true → (getD (now (ends .entry)) t 0 ≡ tick) ⊎ (r .next ≤ getD (now (ends .entry)) t 0)) ⌝ }
+{
+    let mut set = 0u64;
+    let mut next = 0xffff_ffff_ffff_ffffu64;
+    let mut rest = timers;
+    while rest != 0 {
+        let t = transitions::lowest(rest);
+        let e = ends[t];
+        if e == tick {
+            set |= transitions::single(t);
+        } else if e < next {
+            next = e;
+        }
+        rest = transitions::without_lowest(rest);
+    }
+    DueSoon { set, next }
 }
 
 // The timers of a set start at their delays in a tick.
