@@ -7,12 +7,12 @@ use Prim.Native.Nat.{ℕ, zero, suc, _+_, _^_, _≤_, _<_, zero-le}
 use native.Mathlib.Nat.{le-trans, lt-of-le-of-lt, eq-zero-or-pos}
 use native.Mathlib.Omega.{arith}
 use lib.Dec.{T, eqb, ltb, lt→ltb}
-use borrow.Author.Tests.{eqb-true, eqb-false}
+use borrow.Author.Tests.{eq-eqb, eqb-true, eqb-false}
 use Rattle.sets.specs.Sets.{has, minus, single, size, someIn}
 use Rattle.sets.proofs.Tests.{is-false, of-true, and-l, and-r, and-i, or-e, or-l, or-r, above-not}
 use Rattle.sets.proofs.Membership.{has-none, has-union, has-minus, setOf-lt}
 use Rattle.sets.proofs.Facts.{setOf-e, setOf-i, someIn-e, someIn-i, size-le, size-lt}
-use Rattle.sets.proofs.Those.{those-lt}
+use Rattle.sets.proofs.Those.{those-lt, those-none}
 use Rattle.sets.proofs.Members.{empty}
 use Rattle.meaning.specs.Sheet.{tOf, source}
 use Rattle.meaning.specs.Hierarchy.{complete}
@@ -194,6 +194,11 @@ tick-rounds s x d i = rounds-le s d i x
 pub rounds-enough : RoundsEnough
 unfolding RoundsEnough tick
 rounds-enough s x d i f = rounds-more s d i (suc (tOf s)) f (begin s x) 0 (omega (arith, rounds-bound s d i (suc (tOf s)) x))
+
+-- a tick in which nothing is triggered has no round
+pub tick-quiet : (s : List ℕ) (x d i : ℕ) → triggered s d i (begin s x) ≡ 0 → tick s x d i ≡ record { refusal = 0; sets = begin s x; rounds = 0 }
+unfolding tick roundsFrom chosen
+tick-quiet s x d i e = rw (eq-eqb (chosen s d i (begin s x)) 0 (ap (eligible s) e ∙ unfold eligible in (those-none (tOf s) 0 _ refl)))
 
 -- where one is triggered, one is eligible; so a tick that is not refused ends with no transition triggered
 pub settled : (s : List ℕ) → Sound s → (d i x : ℕ) → tick s x d i .refusal ≡ 0 → (t : ℕ) → t < tOf s → trigger s d i (tick s x d i .sets) t ≡ 0
