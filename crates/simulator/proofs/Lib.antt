@@ -1,3 +1,4 @@
 pub mod DelayLaws
+pub mod LiveLaws
 pub mod SheetStateLaws
 pub mod SheetRunLaws
