@@ -7,13 +7,14 @@ use Prim.Native.Nat.{ℕ, _^_, _≤_, _<_}
 use native.Mathlib.Nat.{le-trans}
 use native.Mathlib.Decide.{ℕ-discrete}
 use native.Mathlib.Omega.{arith}
-use lib.Dec.{T, eqb}
+use lib.Dec.{T, eqb, eqb→eq}
 use lib.ListN.{getD}
 use borrow.Author.Tests.{eq-eqb, ne-eqb}
 use Rattle.sets.specs.Sets.{has, union, minus, single, those}
-use Rattle.sets.proofs.Tests.{of-true, of-false}
-use Rattle.sets.proofs.Membership.{has-none}
-use Rattle.sets.proofs.Members.{Turn, without-other}
+use Rattle.sets.proofs.Tests.{is-true, is-false, of-true, of-false}
+use Rattle.sets.proofs.Facts.{those-e}
+use Rattle.sets.proofs.Membership.{has-none, those-lt}
+use Rattle.sets.proofs.Members.{Turn, without-other, empty}
 use Rattle.sets.proofs.Those.{Subset, subset-turn, those-start, those-add, those-skip, those-done}
 
 module _ (timers : ℕ) (ends : List ℕ) (tick : ℕ) where
@@ -68,3 +69,9 @@ module _ (timers : ℕ) (ends : List ℕ) (tick : ℕ) where
       at : (t : ℕ) → T (has rest t) ⊎ DueOrLater next t → DueOrLater next t
       at t (inl k) = absurd (of-false (ap (λ (x : ℕ). has x t) z ∙ has-none t) k)
       at t (inr k) = k
+
+  -- before the tick soon none is due
+  pub soon-none : {soon : ℕ} → ((t : ℕ) → has timers t ≡ true → soon ≤ getD ends t 0) → tick < soon → 0 ≡ all
+  soon-none later l =
+      sym (empty 64 (those-lt 64 timers isDue) (λ t _.
+      is-false (has all t) (λ h. let k = those-e 64 timers isDue t h in omega (arith, later t (is-true (has timers t) (k .1)), eqb→eq (getD ends t 0) tick (k .2)))))

@@ -91,6 +91,19 @@ pub fn due_soon(ends: &[u64; 64], timers: u64, tick: u64) -> DueSoon
     DueSoon { set, next }
 }
 
+// The same, where none of them is due before the tick soon.
+pub fn due_from(ends: &[u64; 64], timers: u64, soon: u64, tick: u64) -> DueSoon
+    requires { ⌜ ((t : ℕ) → has timers t ≡ true → soon ≤ getD (now ends) t 0) ⌝ }
+    ensures { λ r. ⌜
+        (r .set ≡ those 64 timers (λ t. eqb (getD (now (ends .entry)) t 0) tick))
+        × ((t : ℕ) → has timers t ≡ true → (getD (now (ends .entry)) t 0 ≡ tick) ⊎ (r .next ≤ getD (now (ends .entry)) t 0)) ⌝ }
+{
+    if tick < soon {
+        return DueSoon { set: 0, next: soon };
+    }
+    due_soon(ends, timers, tick)
+}
+
 // The timers of a set start at their delays in a tick.
 pub fn restart(delays: &[u64; 64], ends: &mut [u64; 64], set: u64, tick: u64)
     requires { ⌜ (length (now ends) ≡ 64) × (tick < 2 ^ 62) × ((t : ℕ) → t < 64 → getD (now delays) t 0 < 2 ^ 32) ⌝ }
