@@ -1,11 +1,11 @@
 -- The sheet run by deadlines: what is left from here, in a mode set by the deadlines now, gives what all gives from the start.
 -- Assumes nothing.
 use mathlib.Core.Path.{_≡_, refl, sym, ap, _∙_, subst}
-use mathlib.Core.Logic.{_⊎_, inl, inr}
+use mathlib.Core.Logic.{_⊎_, inl, inr, ⊎-elim}
 use mathlib.Core.Bool.{Bool, true, false, cond, and-true}
-use mathlib.Core.List.{List}
+use mathlib.Core.List.{List, [], _∷_}
 use Prim.Native.Nat.{ℕ, _+_, _-_, _*_, _/_, _^_, _≤_, _<_, zero-le}
-use native.Mathlib.Nat.{lt-of-lt-of-le}
+use native.Mathlib.Nat.{add-zero, lt-of-lt-of-le}
 use native.Mathlib.Omega.{arith}
 use lib.Dec.{T, eqb}
 use lib.ListN.{length, getD}
@@ -18,25 +18,27 @@ use Rattle.rows.specs.Over.{over}
 use Rattle.meaning.specs.Lists.{rowFrom}
 use Rattle.meaning.specs.Sheet.{kOf, tOf, source}
 use Rattle.meaning.specs.Check.{sheetRefusal}
-use Rattle.meaning.specs.Reaction.{TickSets, delay, running}
-use Rattle.meaning.specs.Tick.{Tick, tick, fiveWords}
+use Rattle.meaning.specs.Reaction.{TickSets, delay, running, triggered}
+use Rattle.meaning.specs.Tick.{Tick, begin, tick, fiveWords}
 use Rattle.meaning.specs.Run.{State, reading, dueTimers, stops, Run, ran}
 use Rattle.meaning.specs.SheetRun.{stateOk, tickFrom, stateAfter, sheetStep, sheetTicks, sheetRun}
 use Rattle.meaning.specs.Promises.{RunRounds}
-use Rattle.meaning.proofs.ListLaws.{rowFrom-length}
+use Rattle.meaning.proofs.ListLaws.{rowFrom-length, rowFrom-ext, rowFrom-getD}
 use Rattle.meaning.proofs.SheetLaws.{Sound, t-le}
-use Rattle.meaning.proofs.TickLaws.{stayed-or-entered, rounds-le, Runs, running-e, running-i}
+use Rattle.meaning.proofs.TickLaws.{begin-later, tick-quiet, stayed-or-entered, rounds-le, Runs, running-e, running-i}
+use Rattle.meaning.proofs.Consistency.{keeps-consistent}
 use Rattle.meaning.proofs.ReadingLaws.{delay-small, Right, right-next}
 use Rattle.meaning.proofs.RunLaws.{run-all}
 use Rattle.meaning.proofs.SheetTicksLaws.{run-rounds, five-long}
 use Rattle.reaction.specs.Plan.{sourcesIn, timerDelay}
-use Rattle.reaction.specs.Rounds.{Before}
+use Rattle.reaction.specs.Rounds.{Before, Known}
 use Rattle.reaction.proofs.PlanLaws.{has-sourcesIn}
 use Rattle.run.specs.Runs.{endedRun}
 use Rattle.run.proofs.DeadlineLaws.{stateFrom, reading-from, state-next, deadline-after, state-start, start-within}
 use Rattle.run.proofs.LoopLaws.{reached-start, reached-turn, ByDeadlines, due-now, ends-refused}
 use Rattle.simulator.proofs.DelayLaws.{delay-at}
-use Rattle.simulator.proofs.SheetStateLaws.{admitted}
+use Rattle.simulator.proofs.SheetStateLaws.{admitted, admitted-known}
+use Rattle.simulator.proofs.LiveLaws.{sources-none}
 
 -- the state after i ticks, in the mode set x
 abbrev pub stateAt : List ℕ → ℕ → List ℕ → ℕ → State
@@ -54,11 +56,13 @@ right-ahead s sd x ends i r t h =
 
 -- ---- input i is reached in the mode set x, by the deadlines ends
 
-pub record ReachedModes (s inputs out₀ : List ℕ) (q₀ : State) (out ends : List ℕ) (x live total i : ℕ) : Type 0 where
+pub record ReachedModes (s inputs out₀ : List ℕ) (q₀ : State) (out ends : List ℕ) (x live soon total i : ℕ) : Type 0 where
   pub timed : ByDeadlines (kOf s) (sheetStep s) inputs out₀ q₀ out ends x (running s x) total i
   pub sound : Sound s
   pub sources : live ≡ sourcesIn s x
+  pub known : Known s x
   pub right : Right s (stateAt s x ends i)
+  pub later : (t : ℕ) → T (has (running s x) t) → soon ≤ getD ends t 0
   pub few : total ≤ 64 * i
 
 -- at the start the deadlines are the readings
@@ -74,7 +78,7 @@ module _ (s : List ℕ) (sd : Sound s) (q : State) (ok : stateOk s q ≡ true) {
       start-within (running s (q .at)) (delay s) q (admitted s q ok) t (lt-of-lt-of-le (running-e s (q .at) t h .small) (t-le s sd)) h
 
   pub start-modes : {inputs out : List ℕ} {live : ℕ} → live ≡ sourcesIn s (q .at) → 5 * length inputs ≤ length out
-      → ReachedModes s inputs out (stateAt s (q .at) ends 0) out ends (q .at) live 0 0
+      → ReachedModes s inputs out (stateAt s (q .at) ends 0) out ends (q .at) live 0 0 0
   start-modes {inputs} {out} l room =
       let right = subst (Right s) (sym start-state) start-right in
       let reached = reached-start (kOf s) (sheetStep s) inputs out (stateAt s (q .at) ends 0) room in
@@ -82,11 +86,13 @@ module _ (s : List ℕ) (sd : Sound s) (q : State) (ok : stateOk s q ≡ true) {
         timed = record { reached = reached; long = long; ahead = right-ahead s sd (q .at) ends 0 right };
         sound = sd;
         sources = l;
+        known = admitted-known s q ok;
         right = right;
+        later = λ t h. zero-le;
         few = zero-le;
       }
 
-module _ {s inputs out₀ : List ℕ} {q₀ : State} {out ends : List ℕ} {x live total i : ℕ} (k : ReachedModes s inputs out₀ q₀ out ends x live total i) where
+module _ {s inputs out₀ : List ℕ} {q₀ : State} {out ends : List ℕ} {x live soon total i : ℕ} (k : ReachedModes s inputs out₀ q₀ out ends x live soon total i) where
   abbrev now : State
   now = stateAt s x ends i
 
@@ -136,21 +142,25 @@ module _ {s inputs out₀ : List ℕ} {q₀ : State} {out ends : List ℕ} {x li
     unfolding stateAfter
     next-state = state-next (running s (z .modes)) ends′ (i + 1) (z .modes) (z .entered) (source s) (delay s) now reading-after
 
-    next-modes : i < length inputs → input / 2 ^ kOf s ≡ 0
-        → ReachedModes s inputs out₀ q₀ (over out (5 * i) (fiveWords z)) ends′ (z .modes) (sourcesIn s (z .modes)) (total + o .rounds) (i + 1)
+    next-modes : i < length inputs → input / 2 ^ kOf s ≡ 0 → {soon′ : ℕ}
+        → ((t : ℕ) → T (has (running s (z .modes)) t) → i + 1 < getD ends′ t 0 → soon′ ≤ getD ends′ t 0)
+        → ReachedModes s inputs out₀ q₀ (over out (5 * i) (fiveWords z)) ends′ (z .modes) (sourcesIn s (z .modes)) soon′ (total + o .rounds) (i + 1)
     unfolding sheetStep
-    next-modes l b =
+    next-modes l b later =
         let rounds : o .rounds ≤ tOf s = unfold tickFrom in (rounds-le s (dueTimers (running s x) (now .readings)) input x) in
         let right = subst (Right s) (sym next-state) (right-next s (k .sound) now input (k .right) done) in
+        let ahead = right-ahead s (k .sound) (z .modes) ends′ (i + 1) right in
         record {
           timed = record {
             reached = rw next-state (reached-turn (kOf s) (sheetStep s) inputs out₀ q₀ (k .timed .reached) l b done (five-long s now input));
             long = ap length ee ∙ rowFrom-length (λ t. cond (has set t) (i + 1 + getD delays t 0) (getD ends t 0)) 0 64;
-            ahead = right-ahead s (k .sound) (z .modes) ends′ (i + 1) right;
+            ahead = ahead;
           };
           sound = k .sound;
           sources = refl;
+          known = unfold tickFrom in (inr (keeps-consistent s (k .sound) x _ input (k .known)));
           right = right;
+          later = λ t h. later t h (ahead t h .0);
           few = omega (arith, k .few, t-le s (k .sound));
         }
 
@@ -188,13 +198,44 @@ module _ {s inputs out₀ : List ℕ} {q₀ : State} {out ends : List ℕ} {x li
       unfolding sheetStep
       tick-refused n = ends-refused (k .timed) te l b (ap (λ (y : Tick). y .refusal) (sym tick-now)) n
 
-      pub next-turn : r .refusal ≡ 0 → {set live′ total′ : ℕ} {delays out′ ends′ : List ℕ}
-          → set ≡ meet (sourcesIn s (r .sets .entered)) (running s (r .sets .modes)) → delays ≡ rowFrom 0 64 (timerDelay s)
-          → ends′ ≡ rowFrom 0 64 (λ t. cond (has set t) (i + 1 + getD delays t 0) (getD ends t 0))
-          → out′ ≡ over out (5 * i) (fiveWords (r .sets)) → live′ ≡ sourcesIn s (r .sets .modes) → total′ ≡ total + r .rounds
-          → ReachedModes s inputs out₀ q₀ out′ ends′ (r .sets .modes) live′ total′ (i + 1)
-      next-turn n se ye ee oe le tt =
-          rw (oe, le, tt, tick-now) (next-modes (sym (ap (λ (y : Tick). y .refusal) tick-now) ∙ n) (rw tick-now at se) ye ee l b)
+      module _ (n : r .refusal ≡ 0) {live′ total′ : ℕ} {out′ : List ℕ} (oe : out′ ≡ over out (5 * i) (fiveWords (r .sets)))
+          (le : live′ ≡ sourcesIn s (r .sets .modes)) (tt : total′ ≡ total + r .rounds) where
+        -- the deadlines of the timers that start are set
+        pub next-turn : {set : ℕ} {delays ends′ : List ℕ} → set ≡ meet (sourcesIn s (r .sets .entered)) (running s (r .sets .modes))
+            → delays ≡ rowFrom 0 64 (timerDelay s) → ends′ ≡ rowFrom 0 64 (λ t. cond (has set t) (i + 1 + getD delays t 0) (getD ends t 0))
+            → {soon′ : ℕ} → ((t : ℕ) → T (has (running s (r .sets .modes)) t) → i + 1 < getD ends′ t 0 → soon′ ≤ getD ends′ t 0)
+            → ReachedModes s inputs out₀ q₀ out′ ends′ (r .sets .modes) live′ soon′ total′ (i + 1)
+        next-turn se ye ee later =
+            rw (oe, le, tt, tick-now)
+            (next-modes (sym (ap (λ (y : Tick). y .refusal) tick-now) ∙ n) (rw tick-now at se) ye ee l b (rw tick-now at later))
+
+    -- nothing is triggered in it: the modes and the deadlines stay, and none of those that run was due
+    pub next-quiet : i < length inputs → input / 2 ^ kOf s ≡ 0 → (x ≡ 0 → ⊥) → triggered s d input (begin s x) ≡ 0
+        → {soon′ : ℕ} {out′ : List ℕ} → ((t : ℕ) → has timers t ≡ true → (getD ends t 0 ≡ i + 1) ⊎ (soon′ ≤ getD ends t 0))
+        → out′ ≡ over out (5 * i) (0 ∷ 0 ∷ x ∷ 0 ∷ 0 ∷ [])
+        → ReachedModes s inputs out₀ q₀ out′ ends x live soon′ total (i + 1)
+    unfolding fiveWords
+    next-quiet l b n e {soon′} later oe =
+        next-turn l b (sym (tick-quiet s x d input e ∙ ap (λ (y : TickSets). record { refusal = 0; sets = y; rounds = 0 }) (begin-later s x n)))
+        refl oe (k .sources) (sym (add-zero total)) refl refl same stays
+      where
+        set : ℕ
+        set = meet (sourcesIn s 0) (running s x)
+
+        delays : List ℕ
+        delays = rowFrom 0 64 (timerDelay s)
+
+        same : ends ≡ rowFrom 0 64 (λ t. cond (has set t) (i + 1 + getD delays t 0) (getD ends t 0))
+        same =
+            (rw (k .timed .long) at (rowFrom-getD ends 0))
+            ∙ rowFrom-ext (λ t. getD ends t 0) (λ t. cond (has set t) (i + 1 + getD delays t 0) (getD ends t 0)) 0 64
+            (λ t _ _. sym (ap (λ (c : Bool). cond c (i + 1 + getD delays t 0) (getD ends t 0)) (none t)))
+          where
+            none : (t : ℕ) → has set t ≡ false
+            none t = has-meet (sourcesIn s 0) (running s x) t ∙ rw (sources-none s, has-none t)
+
+        stays : (t : ℕ) → T (has (running s x) t) → i + 1 < getD ends t 0 → soon′ ≤ getD ends t 0
+        stays t h a = ⊎-elim (λ c. omega arith) (λ c. c) (later t (rw te (is-true (has (running s x) t) h)))
 
 -- ---- the whole run: at most T rounds for each done tick
 

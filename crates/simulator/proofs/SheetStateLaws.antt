@@ -1,6 +1,7 @@
 -- Refusal 14 of a sheet run: a fresh state, or a consistent set with readings tested against the delays of the timers. Assumes
 -- nothing.
 use mathlib.Core.Path.{_≡_, sym, ap, _∙_}
+use mathlib.Core.Logic.{inl, inr}
 use mathlib.Core.Bool.{true, false, and-false, or-false}
 use mathlib.Core.List.{List}
 use Prim.Native.Nat.{ℕ, _^_, _<_}
@@ -9,7 +10,7 @@ use lib.Dec.{T, eqb, ltb}
 use lib.ListN.{getD}
 use borrow.Author.Tests.{ne-eqb}
 use Rattle.sets.specs.Sets.{every}
-use Rattle.sets.proofs.Tests.{is-true, of-true, and-r}
+use Rattle.sets.proofs.Tests.{is-true, of-true, and-l, and-r}
 use Rattle.sets.proofs.Membership.{has-none}
 use Rattle.meaning.specs.Lists.{rowFrom, allOf}
 use Rattle.meaning.specs.Sheet.{nOf}
@@ -20,6 +21,7 @@ use Rattle.meaning.specs.SheetRun.{stateOk}
 use Rattle.meaning.proofs.TickLaws.{running-e, running-none}
 use Rattle.run.proofs.ReadingTests.{readingFits, readings-sound, readings-none, delays-serve}
 use Rattle.reaction.specs.Plan.{timerDelay}
+use Rattle.reaction.specs.Rounds.{Known}
 use Rattle.simulator.proofs.DelayLaws.{delay-at}
 
 module _ (s : List ℕ) (q : State) where
@@ -62,3 +64,12 @@ module _ (s : List ℕ) (q : State) where
       go (no n) =
           is-true (readingsOk timers (delay s) readings)
           (and-r (consistent s (q .at)) (readingsOk timers (delay s) readings) (of-true (rw (ne-eqb (q .at) 0 n) at ok)))
+
+  pub admitted-known : stateOk s q ≡ true → Known s (q .at)
+  unfolding stateOk isFresh
+  admitted-known ok = go (ℕ-discrete (q .at) 0)
+    where
+      go : Dec (q .at ≡ 0) → Known s (q .at)
+      go (yes e) = inl e
+      go (no n) =
+          inr (and-l (consistent s (q .at)) (readingsOk timers (delay s) readings) (of-true (rw (ne-eqb (q .at) 0 n) at ok)))

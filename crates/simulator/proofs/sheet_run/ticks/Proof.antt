@@ -3,7 +3,7 @@
 use mathlib.Core.Path.{_≡_, sym, ap, ap₂, _∙_}
 use mathlib.Core.Bool.{true}
 use borrow.Author.Needs.{needs}
-use Prim.Native.Nat.{ℕ, _-_, _*_, _/_, _^_, _≤_, _<_}
+use Prim.Native.Nat.{ℕ, _-_, _*_, _/_, _^_, _≤_, _<_, zero-le}
 use native.Mathlib.Omega.{arith}
 use lib.ListN.{length, getD}
 use Rattle.sets.specs.Sets.{has, meet}
@@ -24,7 +24,7 @@ use Rattle.simulator.proofs.sheet_run.ticks.Tie as tie
 
 abbrev Inv-loop : tie.InvT-loop
 Inv-loop sheet plan delays inputs out₀ timers k ends₀ x₀ live₀ total₀ i₀ out ends x live total i =
-    ReachedModes sheet inputs out₀ (stateAt sheet x₀ ends₀ 0) out ends x live (totalOf total) i × (total .1 < 4294967296)
+    ReachedModes sheet inputs out₀ (stateAt sheet x₀ ends₀ 0) out ends x live 0 (totalOf total) i × (total .1 < 4294967296)
 
 abbrev μ-loop : tie.MeasureT-loop
 μ-loop sheet plan delays inputs out₀ timers k ends₀ x₀ live₀ total₀ i₀ out ends x live total i = length inputs - i
@@ -230,10 +230,10 @@ loop-again c =
     let p = start at .pre in (
       next-turn (at .loop .inv .0) (runs at) (tick .before .due .ensures .0) (inside tick .loop-test .taken) (input-ok (known (tick .before)))
           (tick .tick .ensures .0) (sym (ok .before .number .ensures) ∙ ok .if2 .left)
-          (ap₂ meet (starts .from-set2 .ensures) (ap₂ meet (tick .tick .ensures .1) (p .0 .timingAt) ∙ running-meet _ _))
-          (p .1) (dates .restart .ensures)
           (out .put-five .ensures ∙ ap (over (at .loop .out) (5 * at .loop .i)) (out .before .five-words .ensures))
-          (tick .tick .ensures .1) (c .with-rounds .ensures .0),
+          (tick .tick .ensures .1) (c .with-rounds .ensures .0)
+          (ap₂ meet (starts .from-set2 .ensures) (ap₂ meet (tick .tick .ensures .1) (p .0 .timingAt) ∙ running-meet _ _))
+          (p .1) (dates .restart .ensures) (λ t h l. zero-le),
       c .with-rounds .ensures .1,
     )
 
