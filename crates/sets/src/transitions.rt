@@ -1,7 +1,9 @@
 // Sets of transitions, numbers below 64: bit t for transition t.
 ghost use mathlib.Core.Path.{_≡_};
-ghost use Prim.Native.Nat.{_+_, _*_, _/_, _%_, _^_, _<_};
-ghost use Rattle.sets.specs.Sets.{has, minus, meets, single, digit, size, lowest};
+ghost use Prim.Native.Nat.{ℕ, _+_, _*_, _/_, _%_, _^_, _≤_, _<_};
+ghost use lib.ListN.{length, getD};
+ghost use Rattle.sets.specs.Sets.{has, minus, meets, single, digit, size, lowest, someIn};
+use super::modes;
 
 // Transition t is in the set.
 pub fn has(set: u64, t: usize) -> bool
@@ -80,4 +82,18 @@ pub fn join(low: u32, high: u32) -> u64
     ensures { λ r. ⌜ r ≡ high * 2 ^ 32 + low ⌝ }
 {
     (high as u64) << 32 | low as u64
+}
+
+// The union of the words at the members of a mode set, from a place on.
+pub fn union_at(words: &[u64], at: usize, set: u32) -> u64
+    requires { ⌜ at + 32 ≤ length (now words) ⌝ }
+    ensures { λ r. ⌜ ((i : ℕ) → has r i ≡ someIn 32 set (λ m. has (getD (now (words .entry)) (at + m) 0) i)) ⌝ }
+{
+    let mut r = 0u64;
+    let mut rest = set;
+    while rest != 0 {
+        r |= words[at + modes::lowest(rest)];
+        rest = modes::without_lowest(rest);
+    }
+    r
 }
