@@ -7,7 +7,7 @@ use Prim.Native.Nat.{ℕ, zero, suc, _+_, _^_, _≤_, _<_, zero-le}
 use native.Mathlib.Nat.{le-trans, lt-of-le-of-lt, eq-zero-or-pos}
 use native.Mathlib.Omega.{arith}
 use lib.Dec.{T, eqb, ltb, lt→ltb}
-use borrow.Author.Tests.{eq-eqb, ne-eqb, eqb-true, eqb-false}
+use borrow.Author.Tests.{eq-eqb, eqb-true, eqb-false}
 use Rattle.sets.specs.Sets.{has, minus, single, size, someIn}
 use Rattle.sets.proofs.Tests.{is-false, of-true, and-l, and-r, and-i, or-e, or-l, or-r, above-not}
 use Rattle.sets.proofs.Membership.{has-none, has-union, has-minus, setOf-lt}
@@ -194,11 +194,6 @@ tick-rounds s x d i = rounds-le s d i x
 pub rounds-enough : RoundsEnough
 unfolding RoundsEnough tick
 rounds-enough s x d i f = rounds-more s d i (suc (tOf s)) f (begin s x) 0 (omega (arith, rounds-bound s d i (suc (tOf s)) x))
-
--- the sets before the first round of a tick that is not the first
-pub begin-later : (s : List ℕ) (x : ℕ) → (x ≡ 0 → ⊥) → begin s x ≡ record { modes = x; entered = 0; exited = 0; active = x; taken = 0 }
-unfolding begin
-begin-later s x n = rw (ne-eqb x 0 n)
 
 -- a tick in which nothing is triggered has no round
 pub tick-quiet : (s : List ℕ) (x d i : ℕ) → triggered s d i (begin s x) ≡ 0 → tick s x d i ≡ record { refusal = 0; sets = begin s x; rounds = 0 }

@@ -4,7 +4,7 @@ use mathlib.Core.Path.{_≡_, refl, sym, ap, _∙_, subst}
 use mathlib.Core.Logic.{_⊎_, inl, inr, ⊎-elim}
 use mathlib.Core.Bool.{Bool, true, false, cond, and-true}
 use mathlib.Core.List.{List, [], _∷_}
-use Prim.Native.Nat.{ℕ, _+_, _-_, _*_, _/_, _^_, _≤_, _<_, zero-le}
+use Prim.Native.Nat.{ℕ, suc, _+_, _-_, _*_, _/_, _^_, _≤_, _<_, zero-le}
 use native.Mathlib.Nat.{add-zero, lt-of-lt-of-le}
 use native.Mathlib.Omega.{arith}
 use lib.Dec.{T, eqb}
@@ -25,14 +25,17 @@ use Rattle.meaning.specs.SheetRun.{stateOk, tickFrom, stateAfter, sheetStep, sh
 use Rattle.meaning.specs.Promises.{RunRounds}
 use Rattle.meaning.proofs.ListLaws.{rowFrom-length, rowFrom-ext, rowFrom-getD}
 use Rattle.meaning.proofs.SheetLaws.{Sound, t-le}
-use Rattle.meaning.proofs.TickLaws.{begin-later, tick-quiet, stayed-or-entered, rounds-le, Runs, running-e, running-i}
+use Rattle.meaning.proofs.TickLaws.{tick-quiet, stayed-or-entered, rounds-le, Runs, running-e, running-i}
 use Rattle.meaning.proofs.Consistency.{keeps-consistent}
 use Rattle.meaning.proofs.ReadingLaws.{delay-small, Right, right-next}
 use Rattle.meaning.proofs.RunLaws.{run-all}
 use Rattle.meaning.proofs.SheetTicksLaws.{run-rounds, five-long}
 use Rattle.reaction.specs.Plan.{sourcesIn, timerDelay}
-use Rattle.reaction.specs.Rounds.{Before, Known}
+use Rattle.reaction.specs.Rounds.{roundsBy, Known, StartOf, Before}
+use Rattle.reaction.specs.declared.tick.Start.{Start}
 use Rattle.reaction.proofs.PlanLaws.{has-sourcesIn}
+use Rattle.reaction.proofs.EarlyLaws.{begins}
+use Rattle.reaction.proofs.StartLaws.{startSets, start-sets, tick-by}
 use Rattle.run.specs.Runs.{endedRun}
 use Rattle.run.proofs.DeadlineLaws.{stateFrom, reading-from, state-next, deadline-after, state-start, start-within}
 use Rattle.run.proofs.LoopLaws.{reached-start, reached-turn, ByDeadlines, due-now, ends-refused}
@@ -178,16 +181,24 @@ module _ {s inputs out₀ : List ℕ} {q₀ : State} {out ends : List ℕ} {x li
     unfolding dueTimers
     runs t m = running-e s x t (those-e 64 (running s x) _ t (rw due-is at m) .1)
 
-    pub tick-begins : Before s x live d
-    tick-begins =
+    pub tick-begins : {b : Start} → StartOf s x b → Before s b d
+    tick-begins st =
         record {
-          sources = k .sources;
+          set = x;
+          known = k .known;
+          start = st;
           small = lt-of-members 64 (tOf s) d due-word (λ t l _. is-false (has d t) (λ m. let on = runs t m in omega (arith, on .small)));
           timing = λ t m. runs t m .timer;
           none =
               λ e. empty 64 due-word (λ t l.
               is-false (has d t) (λ m. subst T (ap (λ (y : ℕ). has y (source s t)) e ∙ has-none (source s t)) (runs t m .on)));
         }
+
+    -- the rounds from what is triggered first
+    pub tick-of : sheetRefusal s ≡ 0 → input < 2 ^ kOf s → {b : Start} {first : ℕ} {r : Tick} → StartOf s x b → first ≡ triggered s d input (startSets b)
+        → r ≡ roundsBy s (suc (tOf s)) input (startSets b) first 0 → r ≡ tick s x d input
+    unfolding tick-begins
+    tick-of h v st e g = tick-by s h (tick-begins st) v e g
 
     module _ (l : i < length inputs) (b : input / 2 ^ kOf s ≡ 0) {r : Tick} (re : r ≡ tick s x d input) where
       tick-now : r ≡ o
@@ -217,13 +228,16 @@ module _ {s inputs out₀ : List ℕ} {q₀ : State} {out ends : List ℕ} {x li
             (next-modes (sym (ap (λ (y : Tick). y .refusal) tick-now) ∙ n) (rw tick-now at se) ye ee l b (rw tick-now at later))
 
     -- nothing is triggered in it: the modes and the deadlines stay, and none of those that run was due
-    pub next-quiet : i < length inputs → input / 2 ^ kOf s ≡ 0 → (x ≡ 0 → ⊥) → triggered s d input (begin s x) ≡ 0
-        → {soon′ : ℕ} {out′ : List ℕ} → ((t : ℕ) → has timers t ≡ true → (getD ends t 0 ≡ i + 1) ⊎ (soon′ ≤ getD ends t 0))
+    pub next-quiet : i < length inputs → input / 2 ^ kOf s ≡ 0 → {b : Start} {first : ℕ} → StartOf s x b
+        → first ≡ triggered s d input (startSets b) → first ≡ 0 → (x ≡ 0 → ⊥) → {soon′ : ℕ} {out′ : List ℕ}
+        → ((t : ℕ) → has timers t ≡ true → (getD ends t 0 ≡ i + 1) ⊎ (soon′ ≤ getD ends t 0))
         → out′ ≡ over out (5 * i) (0 ∷ 0 ∷ x ∷ 0 ∷ 0 ∷ [])
         → ReachedModes s inputs out₀ q₀ out′ ends x live soon′ total (i + 1)
     unfolding fiveWords
-    next-quiet l b n e {soon′} later oe =
-        next-turn l b (sym (tick-quiet s x d input e ∙ ap (λ (y : TickSets). record { refusal = 0; sets = y; rounds = 0 }) (begin-later s x n)))
+    next-quiet l b st e z n {soon′} later oe =
+        next-turn l b
+        (ap (λ (y : TickSets). record { refusal = 0; sets = y; rounds = 0 }) (begins s x n)
+        ∙ sym (tick-quiet s x d input (sym (ap (triggered s d input) (start-sets s st)) ∙ sym e ∙ z)))
         refl oe (k .sources) (sym (add-zero total)) refl refl same stays
       where
         set : ℕ

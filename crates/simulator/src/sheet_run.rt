@@ -1,16 +1,18 @@
 // The sheet run.
 ghost use mathlib.Core.Path.{_≡_};
 ghost use mathlib.Core.Bool.{true};
-ghost use mathlib.Core.List.{List};
+ghost use mathlib.Core.List.{List, [], _∷_};
 ghost use Prim.Native.Nat.{ℕ, _+_, _*_, _^_, _≤_, _<_};
 ghost use lib.ListN.{length, getD};
 ghost use Rattle.sets.specs.Sets.{has};
+ghost use Rattle.rows.specs.Over.{fiveOf};
 ghost use Rattle.meaning.specs.Lists.{rowFrom};
 ghost use Rattle.meaning.specs.Refusal.{numberOf};
 ghost use Rattle.meaning.specs.Run.{ran};
 ghost use Rattle.meaning.specs.Sheet.{tOf};
 ghost use Rattle.meaning.specs.SheetRun.{stateOk, sheetTicks, sheetRun};
-ghost use Rattle.reaction.specs.Plan.{Planned, timerDelay};
+ghost use Rattle.reaction.specs.Plan.{Planned, sourcesIn, timerDelay};
+ghost use Rattle.reaction.specs.Rounds.{StartOf};
 ghost use Rattle.run.specs.States.{stateOf};
 ghost use Rattle.run.specs.Counts.{totalOf};
 ghost use Rattle.run.specs.Runs.{endedRun};
@@ -19,22 +21,29 @@ use super::state::state_ok;
 use meaning::refusal::Refusal;
 use meaning::refusal::number;
 use planner::put_plan;
+use reaction::plan::EARLY;
 use reaction::plan::Plan;
 use reaction::plan::SIZE;
 use reaction::plan::TIMERS;
 use reaction::plan::from_set;
 use reaction::plan::timer_delays;
+use reaction::tick::Start;
+use reaction::tick::first_triggered;
 use reaction::tick::five_words;
-use reaction::tick::tick;
+use reaction::tick::rounds;
+use reaction::tick::start_of;
+use rows::Five;
 use rows::put_five;
 use run::counts::Rounds;
 use run::counts::Ticks;
 use run::counts::with_rounds;
 use run::deadlines::deadlines;
-use run::deadlines::due;
+use run::deadlines::due_from;
 use run::deadlines::restart;
 use run::state::State;
 use run::state::state_at;
+use sets::modes;
+use sets::transitions;
 use sheet::words::event_count;
 
 // What a sheet run returns: ticks done, their total of rounds, the state after them, the refusal.
@@ -59,6 +68,38 @@ fn ended(ends: &[u64; 64], x: u32, timers: u64, done: usize, total: Rounds, why:
         rounds: total,
         state,
         refusal: why,
+    }
+}
+
+// What a tick from the mode set x begins with, by what the first tick begins with and the transitions whose source is in x.
+fn start_from(sheet: &[u32], plan: &Plan, first: Start, x: u32, live: u64) -> Start
+    requires { ⌜
+        Planned (now sheet) (now plan)
+        × StartOf (now sheet) 0 first
+        × (live ≡ sourcesIn (now sheet) x) ⌝ }
+    ensures { λ r. ⌜ StartOf (now (sheet .entry)) x r ⌝ }
+{
+    if x == 0 {
+        return first;
+    }
+    Start {
+        begun: x,
+        entered: 0,
+        live,
+        unsure: live & plan[EARLY],
+    }
+}
+
+// The words of a tick without a round in the mode set x, not the first.
+fn quiet_words(x: u32) -> Five
+    ensures { λ r. ⌜ fiveOf r ≡ 0 ∷ 0 ∷ x ∷ 0 ∷ 0 ∷ [] ⌝ }
+{
+    Five {
+        entered: 0,
+        exited: 0,
+        active: x,
+        low: 0,
+        high: 0,
     }
 }
 
@@ -87,6 +128,8 @@ fn ticks(
     let mut ends = deadlines(readings);
     let mut x = start.at;
     let mut live = from_set(sheet, plan, x);
+    let power_on = start_of(sheet, plan, 0);
+    let mut soon = 0u64;
     let mut total = Rounds(0, 0);
     let mut i = 0;
     while i < inputs.len() {
@@ -95,19 +138,31 @@ fn ticks(
             return ended(&ends, x, live & timers, i, total, Refusal::InputSet);
         }
         let now = (i + 1) as u64;
-        let d = due(&ends, live & timers, now);
-        let o = tick(sheet, plan, x, live, d.set, input);
+        let d = due_from(&ends, live & timers, soon, now);
+        let from = start_from(sheet, plan, power_on, x, live);
+        let first = first_triggered(sheet, plan, from, d.set, input);
+        if first == 0 && x != 0 {
+            put_five(out, 5 * i, quiet_words(x));
+            soon = d.next;
+            i += 1;
+            continue;
+        }
+        let o = rounds(sheet, plan, from.begun, from.entered, first, input);
         let why = o.refusal;
         if number(why) != 0 {
             return ended(&ends, x, live & timers, i, total, why);
         }
-        let z = o.sets;
-        let again = from_set(sheet, plan, z.entered) & (z.live & timers);
-        restart(delays, &mut ends, again, now);
-        put_five(out, 5 * i, five_words(z));
+        let entered = transitions::low(o.changed);
+        let gained = from_set(sheet, plan, entered);
+        live = transitions::minus(
+            live | gained,
+            from_set(sheet, plan, modes::minus(x | entered, o.modes)),
+        );
+        restart(delays, &mut ends, gained & (live & timers), now);
+        put_five(out, 5 * i, five_words(from.begun, o));
         total = with_rounds(total, o.rounds);
-        x = z.modes;
-        live = z.live;
+        x = o.modes;
+        soon = 0;
         i += 1;
     }
     ended(&ends, x, live & timers, i, total, Refusal::Nothing)

@@ -3,31 +3,37 @@
 use mathlib.Core.Path.{_≡_, sym, ap, ap₂, _∙_}
 use mathlib.Core.Bool.{true}
 use borrow.Author.Needs.{needs}
-use Prim.Native.Nat.{ℕ, _-_, _*_, _/_, _^_, _≤_, _<_, zero-le}
+use Prim.Native.Nat.{ℕ, _-_, _*_, _/_, _%_, _^_, _≤_, _<_, zero-le}
 use native.Mathlib.Omega.{arith}
+use lib.Dec.{eqb}
 use lib.ListN.{length, getD}
-use Rattle.sets.specs.Sets.{has, meet}
+use borrow.Author.Tests.{eqb-false, not-true}
+use Rattle.sets.specs.Sets.{has, union, meet, minus}
+use Rattle.sets.proofs.Tests.{of-true}
 use Rattle.rows.specs.Over.{over}
 use Rattle.meaning.specs.Sheet.{kOf}
 use Rattle.meaning.specs.Reaction.{running}
+use Rattle.meaning.specs.Tick.{tick}
 use Rattle.meaning.proofs.SheetLaws.{Sound, sound, k-le}
 use Rattle.sheet.proofs.Past.{head-read}
-use Rattle.reaction.specs.Plan.{timersWord}
+use Rattle.reaction.specs.Plan.{timersWord, sourcesIn}
+use Rattle.reaction.specs.Rounds.{tickOf, Before}
 use Rattle.reaction.proofs.PlanLaws.{running-meet}
+use Rattle.reaction.proofs.StartLaws.{begun-of}
 use Rattle.run.specs.Counts.{totalOf}
 use Rattle.run.specs.States.{stateOf}
 use Rattle.run.proofs.LoopLaws.{input-below, later, ends-done, ends-foreign}
 use Rattle.simulator.proofs.DelayLaws.{delay-word}
-use Rattle.simulator.proofs.SheetRunLaws.{stateAt, ReachedModes, start-state, start-modes, tick-begins, tick-refused, next-turn}
+use Rattle.simulator.proofs.SheetRunLaws.{stateAt, ReachedModes, start-state, start-modes, tick-begins, tick-of, tick-refused, live-after, next-turn, next-quiet}
 use Rattle.simulator.proofs.sheet_run.ticks.Statement.{statement}
 use Rattle.simulator.proofs.sheet_run.ticks.Tie as tie
 
 abbrev Inv-loop : tie.InvT-loop
-Inv-loop sheet plan delays inputs out₀ timers k ends₀ x₀ live₀ total₀ i₀ out ends x live total i =
-    ReachedModes sheet inputs out₀ (stateAt sheet x₀ ends₀ 0) out ends x live 0 (totalOf total) i × (total .1 < 4294967296)
+Inv-loop sheet plan delays inputs out₀ timers k ends₀ x₀ live₀ power-on soon₀ total₀ i₀ out ends x live soon total i =
+    ReachedModes sheet inputs out₀ (stateAt sheet x₀ ends₀ 0) out ends x live soon (totalOf total) i × (total .1 < 4294967296)
 
 abbrev μ-loop : tie.MeasureT-loop
-μ-loop sheet plan delays inputs out₀ timers k ends₀ x₀ live₀ total₀ i₀ out ends x live total i = length inputs - i
+μ-loop sheet plan delays inputs out₀ timers k ends₀ x₀ live₀ power-on soon₀ total₀ i₀ out ends x live soon total i = length inputs - i
 
 -- ---- the places that the needs go back to, each from the one after it
 
@@ -36,42 +42,64 @@ abbrev entry : tie.After-timers Inv-loop μ-loop → tie.Start Inv-loop μ-loop
 entry c = c .before .before .before .before
 
 abbrev dates : tie.At-loop Inv-loop μ-loop → tie.After-deadlines Inv-loop μ-loop
-dates c = c .before .before
+dates c = c .before .before .before
 
--- in a turn: the input set below 2^k; the tick not refused; the timers that start; the five words put
-abbrev known : tie.After-due Inv-loop μ-loop → tie.Else1 Inv-loop μ-loop
-known c = c .before .before
-
-abbrev allowed : tie.After-from-set2 Inv-loop μ-loop → tie.Else2 Inv-loop μ-loop
-allowed c = c .before .before
-
-abbrev started : tie.After-ends4 Inv-loop μ-loop → tie.After-from-set2 Inv-loop μ-loop
-started c = c .before .before
-
-abbrev put : tie.After-slice-known2 Inv-loop μ-loop → tie.After-put-five Inv-loop μ-loop
-put c = c .before .before
-
--- the entry from the deadlines and from the loop's head; the turn and the head from the tick; the tick and the deadlines from later on
 abbrev begun : tie.After-deadlines Inv-loop μ-loop → tie.Start Inv-loop μ-loop
 begun c = entry (c .before .before .before)
 
 abbrev start : tie.At-loop Inv-loop μ-loop → tie.Start Inv-loop μ-loop
 start c = begun (dates c)
 
-abbrev inside : tie.After-tick Inv-loop μ-loop → tie.In-loop Inv-loop μ-loop
-inside c = known (c .before) .before .before
+-- in a turn: the input set below 2^k; the due timers; what is triggered first; the turn and the loop's head from there
+abbrev known : tie.After-due-from Inv-loop μ-loop → tie.Else1 Inv-loop μ-loop
+known c = c .before .before
 
-abbrev head : tie.After-tick Inv-loop μ-loop → tie.At-loop Inv-loop μ-loop
+abbrev due : tie.After-first-triggered Inv-loop μ-loop → tie.After-due-from Inv-loop μ-loop
+due c = c .before .before
+
+abbrev inside : tie.After-first-triggered Inv-loop μ-loop → tie.In-loop Inv-loop μ-loop
+inside c = known (due c) .before .before
+
+abbrev head : tie.After-first-triggered Inv-loop μ-loop → tie.At-loop Inv-loop μ-loop
 head c = inside c .before
 
-abbrev reacted : tie.After-ends4 Inv-loop μ-loop → tie.After-tick Inv-loop μ-loop
-reacted c = allowed (started c) .before .before
+-- nothing is triggered: that place from the words put, the words put from the end of the turn
+abbrev quiet : tie.After-quiet-words Inv-loop μ-loop → tie.Then3 Inv-loop μ-loop
+quiet c = c .before .before
+
+abbrev still : tie.Then3 Inv-loop μ-loop → tie.After-first-triggered Inv-loop μ-loop
+still c = c .before .before
+
+abbrev quiet-put : tie.After-slice-known2 Inv-loop μ-loop → tie.After-put-five Inv-loop μ-loop
+quiet-put c = c .before .before
+
+-- else: what is triggered first from the rounds; the rounds, not refused; the transitions found live; the deadlines; the words put
+abbrev first : tie.After-rounds Inv-loop μ-loop → tie.After-first-triggered Inv-loop μ-loop
+first c = c .before .before
+
+abbrev reacted : tie.Else4 Inv-loop μ-loop → tie.After-rounds Inv-loop μ-loop
+reacted c = c .before .before
+
+abbrev allowed : tie.After-from-set2 Inv-loop μ-loop → tie.Else4 Inv-loop μ-loop
+allowed c = c .before .before
+
+abbrev gained : tie.After-minus2 Inv-loop μ-loop → tie.After-from-set2 Inv-loop μ-loop
+gained c = c .before .before .before
+
+abbrev lively : tie.After-restart Inv-loop μ-loop → tie.After-minus2 Inv-loop μ-loop
+lively c = c .before .before
 
 abbrev moved : tie.After-five-words Inv-loop μ-loop → tie.After-restart Inv-loop μ-loop
 moved c = c .before .before
 
-abbrev inputs-left : tie.After-slice-known2 Inv-loop μ-loop → tie.In-loop Inv-loop μ-loop
-inputs-left c = inside (reacted (moved (put c .before) .before))
+abbrev put : tie.After-slice-known3 Inv-loop μ-loop → tie.After-put-five2 Inv-loop μ-loop
+put c = c .before .before
+
+abbrev triggers : tie.After-restart Inv-loop μ-loop → tie.After-first-triggered Inv-loop μ-loop
+triggers c = first (reacted (allowed (gained (lively c))))
+
+abbrev inputs-left : tie.After-slice-known3 Inv-loop μ-loop → tie.In-loop Inv-loop μ-loop
+inputs-left c = inside (triggers (moved (put c .before)))
 
 -- ---- what holds there
 
@@ -107,6 +135,41 @@ input-ok c =
     let at = c .before .before .before in
     ap (λ (k : ℕ). getD (start at .args .inputs .now) (at .loop .i) 0 / 2 ^ k) (sym (count-is at)) ∙ c .if1 .left
 
+-- what the tick begins with
+begins : (c : tie.After-first-triggered Inv-loop μ-loop)
+    → Before (start (head c) .args .sheet .now) (c .before .start-from .result) (due c .due-from .result .set)
+begins c = let at = head c in tick-begins (at .loop .inv .0) (runs at) (due c .due-from .ensures .0) (c .before .start-from .ensures)
+
+-- the rounds are the tick
+tick-is : (c : tie.After-rounds Inv-loop μ-loop)
+    → let f = first c in
+    let at = head f in
+    let a = start at .args in
+    tickOf (f .before .start-from .result .begun) (c .rounds .result)
+    ≡ tick (a .sheet .now) (at .loop .x) (due f .due-from .result .set) (getD (a .inputs .now) (at .loop .i) 0)
+tick-is c =
+    let f = first c in
+    let at = head f in
+    tick-of (at .loop .inv .0) (runs at) (due f .due-from .ensures .0) (start at .pre .0 .passes) (input-below _ _ (input-ok (known (due f))))
+    (f .before .start-from .ensures) (f .first-triggered .ensures) (c .rounds .ensures)
+
+-- the transitions whose source was entered; those whose source is active
+gained-is : (c : tie.After-from-set2 Inv-loop μ-loop)
+    → let o = reacted (allowed c) in c .from-set2 .result ≡ sourcesIn (start (head (first o)) .args .sheet .now) (o .rounds .result .changed % 2 ^ 32)
+gained-is c = c .from-set2 .ensures ∙ ap (sourcesIn _) (c .before .low .ensures)
+
+live-is : (c : tie.After-minus2 Inv-loop μ-loop)
+    → let o = reacted (allowed (gained c)) in c .minus2 .result ≡ sourcesIn (start (head (first o)) .args .sheet .now) (o .rounds .result .modes)
+live-is c =
+    let o = reacted (allowed (gained c)) in
+    let f = first o in
+    let at = head f in
+    c .minus2 .ensures
+    ∙ live-after (at .loop .inv .0) (runs at) (due f .due-from .ensures .0) (inside f .loop-test .taken) (input-ok (known (due f))) (tick-is o)
+    (gained-is (gained c))
+    (c .before .from-set3 .ensures
+    ∙ ap (sourcesIn _) (c .before .before .minus .ensures ∙ ap (λ (e : ℕ). minus (union (at .loop .x) e) (o .rounds .result .modes)) (gained c .before .low .ensures)))
+
 -- ---- the needs
 
 element-copy-out-timers : tie.Need-element-copy-out-timers Inv-loop μ-loop
@@ -119,14 +182,18 @@ deadlines-requires : tie.Need-deadlines-requires Inv-loop μ-loop
 deadlines-requires c κs = search needs
 
 from-set-requires : tie.Need-from-set-requires Inv-loop μ-loop
-from-set-requires c κs = begun c .pre .0 .fromAt
+from-set-requires c κs = begun c .pre .0
+
+start-of-requires : tie.Need-start-of-requires Inv-loop μ-loop
+start-of-requires c κs = begun (c .before) .pre .0
 
 loop-holds : tie.Need-loop-holds Inv-loop μ-loop
 loop-holds c =
-    let s = begun (c .before) in
+    let d = c .before .before in
+    let s = begun d in
     let a = s .args in (
       start-modes (a .sheet .now) (sound _ (s .pre .0 .passes)) (stateOf (a .start)) (s .pre .2)
-          (c .before .deadlines .ensures) (search needs) (c .from-set .ensures) (s .pre .3),
+          (d .deadlines .ensures) (search needs) (c .before .from-set .ensures) (s .pre .3),
       omega arith,
     )
 
@@ -160,52 +227,111 @@ returns c =
 add-now : tie.Need-add-now Inv-loop μ-loop
 add-now c = search needs
 
-due-requires : tie.Need-due-requires Inv-loop μ-loop
-due-requires c κs = search needs
+due-from-requires : tie.Need-due-from-requires Inv-loop μ-loop
+due-from-requires c κs = let at = c .before .before .before .before in λ t h. at .loop .inv .0 .later t (of-true (ap (λ (y : ℕ). has y t) (sym (runs at)) ∙ h))
 
-tick-requires : tie.Need-tick-requires Inv-loop μ-loop
-tick-requires c κs =
+start-from-requires : tie.Need-start-from-requires Inv-loop μ-loop
+start-from-requires c κs =
     let at = known c .before .before .before in
-    (start at .pre .0, tick-begins (at .loop .inv .0) (runs at) (c .due .ensures .0), input-below _ _ (input-ok (known c)))
+    (start at .pre .0, at .before .start-of .ensures, at .loop .inv .0 .sources)
+
+first-triggered-requires : tie.Need-first-triggered-requires Inv-loop μ-loop
+first-triggered-requires c κs =
+    let d = c .before in
+    let at = known d .before .before .before in
+    (start at .pre .0, tick-begins (at .loop .inv .0) (runs at) (d .due-from .ensures .0) (c .start-from .ensures), input-below _ _ (input-ok (known d)))
+
+-- ---- the needs where nothing is triggered
+
+mul-put-five : tie.Need-mul-put-five Inv-loop μ-loop
+mul-put-five c = omega (arith, short (inside (still (c .before))))
+
+quiet-words-requires : tie.Need-quiet-words-requires Inv-loop μ-loop
+quiet-words-requires c κs = search needs
+
+put-five-requires : tie.Need-put-five-requires Inv-loop μ-loop
+put-five-requires c κs =
+    let on = inside (still (quiet c)) in
+    omega (arith, on .loop-test .taken, on .before .loop .inv .0 .timed .reached .room)
+
+add-i : tie.Need-add-i Inv-loop μ-loop
+add-i c = omega (arith, short (inside (still (quiet (quiet-put c .before)))))
+
+loop-less : tie.Need-loop-less Inv-loop μ-loop
+loop-less c = omega (arith, inside (still (quiet (quiet-put c .before))) .loop-test .taken)
+
+loop-again : tie.Need-loop-again Inv-loop μ-loop
+loop-again c =
+    let out = quiet-put c in
+    let none = quiet (out .before) in
+    let f = still none in
+    let at = head f in (
+      next-quiet (at .loop .inv .0) (runs at) (due f .due-from .ensures .0) (inside f .loop-test .taken) (input-ok (known (due f)))
+          (f .before .start-from .ensures) (f .first-triggered .ensures) (none .before .if2 .taken) (eqb-false (at .loop .x) 0 (not-true (eqb (at .loop .x) 0) (none .if3 .taken))) (due f .due-from .ensures .1)
+          (out .put-five .ensures ∙ ap (over (at .loop .out) (5 * at .loop .i)) (out .before .quiet-words .ensures)),
+      at .loop .inv .1,
+    )
+
+-- ---- the needs where something is, or in the first tick
+
+rounds-requires : tie.Need-rounds-requires Inv-loop μ-loop
+rounds-requires c κs =
+    let f = c .before in
+    let p = start (head f) .pre .0 in
+    let low = input-below _ _ (input-ok (known (due f))) in
+    (p, begun-of _ (p .passes) (begins f) low (f .first-triggered .ensures), low)
 
 number-requires : tie.Need-number-requires Inv-loop μ-loop
 number-requires c κs = search needs
 
 ended-requires-2 : tie.Need-ended-requires-2 Inv-loop μ-loop
-ended-requires-2 c κs = not-past (head (c .before .before .before))
+ended-requires-2 c κs = not-past (head (first (c .before .before .before)))
 
 same-length-2 : tie.Need-same-length-2 Inv-loop μ-loop
-same-length-2 c = omega (arith, head (c .before .before .before .before) .loop .inv .0 .timed .reached .same)
+same-length-2 c = omega (arith, head (first (c .before .before .before .before)) .loop .inv .0 .timed .reached .same)
 
 returns-2 : tie.Need-returns-2 Inv-loop μ-loop
 returns-2 c =
     let refused = c .before .before in
-    let tick = refused .before .before in
-    let at = head tick in (
+    let o = refused .before .before in
+    let f = first o in
+    let at = head f in (
       c .ended2 .ensures .0 (at .loop .out)
-          ∙ rw (from-start at) at (tick-refused (at .loop .inv .0) (runs at) (tick .before .due .ensures .0) (inside tick .loop-test .taken)
-          (input-ok (known (tick .before))) (tick .tick .ensures .0) (λ e. refused .if2 .taken (refused .before .number .ensures ∙ e))),
+          ∙ rw (from-start at) at (tick-refused (at .loop .inv .0) (runs at) (due f .due-from .ensures .0) (inside f .loop-test .taken)
+          (input-ok (known (due f))) (tick-is o) (λ e. refused .if4 .taken (refused .before .number .ensures ∙ e))),
       omega (arith, c .ended2 .ensures .1, at .loop .inv .1),
     )
 
+low-requires : tie.Need-low-requires Inv-loop μ-loop
+low-requires c κs = search needs
+
 from-set-requires-2 : tie.Need-from-set-requires-2 Inv-loop μ-loop
-from-set-requires-2 c κs = start (head (c .before .before .before)) .pre .0 .fromAt
+from-set-requires-2 c κs = start (head (first (reacted (c .before)))) .pre .0
+
+minus-requires : tie.Need-minus-requires Inv-loop μ-loop
+minus-requires c κs = search needs
+
+from-set-requires-3 : tie.Need-from-set-requires-3 Inv-loop μ-loop
+from-set-requires-3 c κs = start (head (first (reacted (allowed (c .before))))) .pre .0
+
+minus-requires-2 : tie.Need-minus-requires-2 Inv-loop μ-loop
+minus-requires-2 c κs = search needs
 
 restart-requires : tie.Need-restart-requires Inv-loop μ-loop
 restart-requires c κs =
-    let tick = reacted c in
-    let at = head tick in
-    (at .loop .inv .0 .timed .long, omega (arith, short (inside tick)), λ t l. delay-word _ (start at .pre .1) t l (sheet-sound at))
+    let f = first (reacted (allowed (gained (c .before)))) in
+    let at = head f in
+    (at .loop .inv .0 .timed .long, omega (arith, short (inside f)), λ t l. delay-word _ (start at .pre .1) t l (sheet-sound at))
 
-mul-put-five : tie.Need-mul-put-five Inv-loop μ-loop
-mul-put-five c = omega (arith, short (inside (reacted (c .before .before))))
+mul-put-five-2 : tie.Need-mul-put-five-2 Inv-loop μ-loop
+mul-put-five-2 c = omega (arith, short (inside (triggers (c .before))))
 
 five-words-requires : tie.Need-five-words-requires Inv-loop μ-loop
 five-words-requires c κs = search needs
 
-put-five-requires : tie.Need-put-five-requires Inv-loop μ-loop
-put-five-requires c κs =
-    let on = inside (reacted (moved c .before)) in
+put-five-requires-2 : tie.Need-put-five-requires-2 Inv-loop μ-loop
+put-five-requires-2 c κs =
+    let on = inside (triggers (moved c)) in
     omega (arith, on .loop-test .taken, on .before .loop .inv .0 .timed .reached .room)
 
 with-rounds-requires : tie.Need-with-rounds-requires Inv-loop μ-loop
@@ -213,26 +339,27 @@ with-rounds-requires c κs =
     let on = inputs-left c in
     (omega (arith, short on, on .before .loop .inv .0 .few), on .before .loop .inv .1)
 
-add-i : tie.Need-add-i Inv-loop μ-loop
-add-i c = omega (arith, short (inputs-left (c .before)))
+add-i-2 : tie.Need-add-i-2 Inv-loop μ-loop
+add-i-2 c = omega (arith, short (inputs-left (c .before)))
 
-loop-less : tie.Need-loop-less Inv-loop μ-loop
-loop-less c = omega (arith, inputs-left (c .before) .loop-test .taken)
+loop-less-2 : tie.Need-loop-less-2 Inv-loop μ-loop
+loop-less-2 c = omega (arith, inputs-left (c .before) .loop-test .taken)
 
-loop-again : tie.Need-loop-again Inv-loop μ-loop
-loop-again c =
+loop-again-2 : tie.Need-loop-again-2 Inv-loop μ-loop
+loop-again-2 c =
     let out = put (c .before) in
     let dates = moved (out .before) in
-    let starts = started (dates .before) in
-    let ok = allowed starts in
-    let tick = ok .before .before in
-    let at = head tick in
+    let live = lively dates in
+    let ok = allowed (gained live) in
+    let o = reacted ok in
+    let f = first o in
+    let at = head f in
     let p = start at .pre in (
-      next-turn (at .loop .inv .0) (runs at) (tick .before .due .ensures .0) (inside tick .loop-test .taken) (input-ok (known (tick .before)))
-          (tick .tick .ensures .0) (sym (ok .before .number .ensures) ∙ ok .if2 .left)
-          (out .put-five .ensures ∙ ap (over (at .loop .out) (5 * at .loop .i)) (out .before .five-words .ensures))
-          (tick .tick .ensures .1) (c .with-rounds .ensures .0)
-          (ap₂ meet (starts .from-set2 .ensures) (ap₂ meet (tick .tick .ensures .1) (p .0 .timingAt) ∙ running-meet _ _))
+      next-turn (at .loop .inv .0) (runs at) (due f .due-from .ensures .0) (inside f .loop-test .taken) (input-ok (known (due f)))
+          (tick-is o) (sym (ok .before .number .ensures) ∙ ok .if4 .left)
+          (out .put-five2 .ensures ∙ ap (over (at .loop .out) (5 * at .loop .i)) (out .before .five-words .ensures))
+          (live-is live) (c .with-rounds .ensures .0)
+          (ap₂ meet (gained-is (gained live)) (ap₂ meet (live-is live) (p .0 .timingAt) ∙ running-meet _ _))
           (p .1) (dates .restart .ensures) (λ t h l. zero-le),
       c .with-rounds .ensures .1,
     )
@@ -255,7 +382,9 @@ pub ticks-spec : {M : Type 1} → statement M
 ticks-spec =
     tie.close
     (tie.spec Inv-loop μ-loop element-copy-out-timers event-count-requires deadlines-requires from-set-requires
-    loop-holds mul-input shared-slice-read-input shr-if1 ended-requires same-length returns add-now due-requires
-    tick-requires number-requires ended-requires-2 same-length-2 returns-2 from-set-requires-2 restart-requires
-    mul-put-five five-words-requires put-five-requires with-rounds-requires add-i loop-less loop-again
-    ended-requires-3 same-length-3 returns-3)
+    start-of-requires loop-holds mul-input shared-slice-read-input shr-if1 ended-requires same-length returns add-now
+    due-from-requires start-from-requires first-triggered-requires mul-put-five quiet-words-requires put-five-requires
+    add-i loop-less loop-again rounds-requires number-requires ended-requires-2 same-length-2 returns-2 low-requires
+    from-set-requires-2 minus-requires from-set-requires-3 minus-requires-2 restart-requires mul-put-five-2
+    five-words-requires put-five-requires-2 with-rounds-requires add-i-2 loop-less-2 loop-again-2 ended-requires-3
+    same-length-3 returns-3)
