@@ -9,7 +9,7 @@ use native.Mathlib.Nat.{add-zero, lt-of-lt-of-le}
 use native.Mathlib.Omega.{arith}
 use lib.Dec.{T, eqb}
 use lib.ListN.{length, getD}
-use Rattle.sets.specs.Sets.{has, union, meet, minus, those}
+use Rattle.sets.specs.Sets.{has, meet, those}
 use Rattle.sets.proofs.Tests.{is-true, is-false}
 use Rattle.sets.proofs.Facts.{those-e}
 use Rattle.sets.proofs.Membership.{has-none, has-meet, those-lt, lt-of-members}
@@ -19,7 +19,7 @@ use Rattle.meaning.specs.Lists.{rowFrom}
 use Rattle.meaning.specs.Sheet.{kOf, tOf, source}
 use Rattle.meaning.specs.Check.{sheetRefusal}
 use Rattle.meaning.specs.Reaction.{TickSets, delay, running, triggered}
-use Rattle.meaning.specs.Tick.{Tick, begin, tick, fiveWords}
+use Rattle.meaning.specs.Tick.{Tick, tick, fiveWords}
 use Rattle.meaning.specs.Run.{State, reading, dueTimers, stops, Run, ran}
 use Rattle.meaning.specs.SheetRun.{stateOk, tickFrom, stateAfter, sheetStep, sheetTicks, sheetRun}
 use Rattle.meaning.specs.Promises.{RunRounds}
@@ -41,7 +41,7 @@ use Rattle.run.proofs.DeadlineLaws.{stateFrom, reading-from, state-next, deadli
 use Rattle.run.proofs.LoopLaws.{reached-start, reached-turn, ByDeadlines, due-now, ends-refused}
 use Rattle.simulator.proofs.DelayLaws.{delay-at}
 use Rattle.simulator.proofs.SheetStateLaws.{admitted, admitted-known}
-use Rattle.simulator.proofs.LiveLaws.{sources-none, sources-moved}
+use Rattle.simulator.proofs.LiveLaws.{sources-none}
 
 -- the state after i ticks, in the mode set x
 abbrev pub stateAt : List ℕ → ℕ → List ℕ → ℕ → State
@@ -209,12 +209,9 @@ module _ {s inputs out₀ : List ℕ} {q₀ : State} {out ends : List ℕ} {x li
       unfolding sheetStep
       tick-refused n = ends-refused (k .timed) te l b (ap (λ (y : Tick). y .refusal) (sym tick-now)) n
 
-      -- the transitions whose source is active after it, as the code finds them
-      pub live-after : {gained lost : ℕ} → gained ≡ sourcesIn s (r .sets .entered) → lost ≡ sourcesIn s (minus (union x (r .sets .entered)) (r .sets .modes))
-          → minus (union live gained) lost ≡ sourcesIn s (r .sets .modes)
-      live-after ge le =
-          rw (k .sources, ge, le)
-          (sources-moved s x (r .sets .entered) (r .sets .modes) (rw re (stayed-or-entered s d input x)))
+      -- a mode that is in the set at its end was there before it or was entered
+      pub tick-stayed : (m : ℕ) → T (has (r .sets .modes) m) → T (has x m) ⊎ T (has (r .sets .entered) m)
+      tick-stayed = rw re (stayed-or-entered s d input x)
 
       module _ (n : r .refusal ≡ 0) {live′ total′ : ℕ} {out′ : List ℕ} (oe : out′ ≡ over out (5 * i) (fiveWords (r .sets)))
           (le : live′ ≡ sourcesIn s (r .sets .modes)) (tt : total′ ≡ total + r .rounds) where

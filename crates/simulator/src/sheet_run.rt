@@ -1,13 +1,16 @@
 // The sheet run.
 ghost use mathlib.Core.Path.{_≡_};
+ghost use mathlib.Core.Logic.{_⊎_};
 ghost use mathlib.Core.Bool.{true};
 ghost use mathlib.Core.List.{List, [], _∷_};
-ghost use Prim.Native.Nat.{ℕ, _+_, _*_, _^_, _≤_, _<_};
+ghost use Prim.Native.Nat.{ℕ, _+_, _*_, _%_, _^_, _≤_, _<_};
+ghost use lib.Dec.{T};
 ghost use lib.ListN.{length, getD};
-ghost use Rattle.sets.specs.Sets.{has};
+ghost use Rattle.sets.specs.Sets.{has, meet};
 ghost use Rattle.rows.specs.Over.{fiveOf};
 ghost use Rattle.meaning.specs.Lists.{rowFrom};
 ghost use Rattle.meaning.specs.Refusal.{numberOf};
+ghost use Rattle.meaning.specs.Reaction.{running};
 ghost use Rattle.meaning.specs.Run.{ran};
 ghost use Rattle.meaning.specs.Sheet.{tOf};
 ghost use Rattle.meaning.specs.SheetRun.{stateOk, sheetTicks, sheetRun};
@@ -28,6 +31,7 @@ use reaction::plan::TIMERS;
 use reaction::plan::from_set;
 use reaction::plan::timer_delays;
 use reaction::tick::Start;
+use reaction::tick::Ticked;
 use reaction::tick::first_triggered;
 use reaction::tick::five_words;
 use reaction::tick::rounds;
@@ -103,6 +107,33 @@ fn quiet_words(x: u32) -> Five
     }
 }
 
+// What a tick leaves: the transitions whose source is active, and the timers among them that start, whose source was entered.
+pub struct Left {
+    pub live: u64,
+    pub starts: u64,
+}
+
+// What is left by a tick from the mode set x, after which every mode was in x or was entered.
+fn left_by(sheet: &[u32], plan: &Plan, x: u32, live: u64, o: Ticked) -> Left
+    requires { ⌜
+        Planned (now sheet) (now plan)
+        × (live ≡ sourcesIn (now sheet) x)
+        × ((m : ℕ) → T (has (o .modes) m) → T (has x m) ⊎ T (has (o .changed % 2 ^ 32) m)) ⌝ }
+    ensures { λ r. ⌜
+        (r .live ≡ sourcesIn (now (sheet .entry)) (o .modes))
+        × (r .starts
+        ≡ meet (sourcesIn (now (sheet .entry)) (o .changed % 2 ^ 32)) (running (now (sheet .entry)) (o .modes))) ⌝ }
+{
+    let entered = transitions::low(o.changed);
+    let gained = from_set(sheet, plan, entered);
+    let lost = from_set(sheet, plan, modes::minus(x | entered, o.modes));
+    let now = transitions::minus(live | gained, lost);
+    Left {
+        live: now,
+        starts: gained & (now & plan[TIMERS]),
+    }
+}
+
 // Tick by tick: 13, then 8 or 9.
 fn ticks(
     sheet: &[u32],
@@ -137,33 +168,28 @@ fn ticks(
         if input >> k != 0 {
             return ended(&ends, x, live & timers, i, total, Refusal::InputSet);
         }
-        let now = (i + 1) as u64;
-        let d = due_from(&ends, live & timers, soon, now);
+        let now = i + 1;
+        let d = due_from(&ends, live & timers, soon, now as u64);
         let from = start_from(sheet, plan, power_on, x, live);
         let first = first_triggered(sheet, plan, from, d.set, input);
         if first == 0 && x != 0 {
             put_five(out, 5 * i, quiet_words(x));
             soon = d.next;
-            i += 1;
-            continue;
+        } else {
+            let o = rounds(sheet, plan, from.begun, from.entered, first, input);
+            let why = o.refusal;
+            if number(why) != 0 {
+                return ended(&ends, x, live & timers, i, total, why);
+            }
+            let left = left_by(sheet, plan, x, live, o);
+            restart(delays, &mut ends, left.starts, now as u64);
+            put_five(out, 5 * i, five_words(from.begun, o));
+            total = with_rounds(total, o.rounds);
+            x = o.modes;
+            live = left.live;
+            soon = 0;
         }
-        let o = rounds(sheet, plan, from.begun, from.entered, first, input);
-        let why = o.refusal;
-        if number(why) != 0 {
-            return ended(&ends, x, live & timers, i, total, why);
-        }
-        let entered = transitions::low(o.changed);
-        let gained = from_set(sheet, plan, entered);
-        live = transitions::minus(
-            live | gained,
-            from_set(sheet, plan, modes::minus(x | entered, o.modes)),
-        );
-        restart(delays, &mut ends, gained & (live & timers), now);
-        put_five(out, 5 * i, five_words(from.begun, o));
-        total = with_rounds(total, o.rounds);
-        x = o.modes;
-        soon = 0;
-        i += 1;
+        i = now;
     }
     ended(&ends, x, live & timers, i, total, Refusal::Nothing)
 }

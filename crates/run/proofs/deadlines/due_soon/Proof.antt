@@ -1,6 +1,6 @@
 -- `run::deadlines::due_soon` meets its contract: of the timers passed, those that are due are found, and the others are due at the
 -- tick found or later. Assumes nothing.
-use mathlib.Core.Path.{_≡_, refl, sym, ap, _∙_}
+use mathlib.Core.Path.{_≡_, refl, ap, _∙_}
 use mathlib.Core.Logic.{⊎-elim}
 use borrow.Author.Needs.{needs}
 use Prim.Native.Nat.{ℕ}

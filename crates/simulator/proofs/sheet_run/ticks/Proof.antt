@@ -3,12 +3,12 @@
 use mathlib.Core.Path.{_≡_, sym, ap, ap₂, _∙_}
 use mathlib.Core.Bool.{true}
 use borrow.Author.Needs.{needs}
-use Prim.Native.Nat.{ℕ, _-_, _*_, _/_, _%_, _^_, _≤_, _<_, zero-le}
+use Prim.Native.Nat.{ℕ, _-_, _*_, _/_, _^_, _≤_, _<_, zero-le}
 use native.Mathlib.Omega.{arith}
 use lib.Dec.{eqb}
 use lib.ListN.{length, getD}
 use borrow.Author.Tests.{eqb-false, not-true}
-use Rattle.sets.specs.Sets.{has, union, meet, minus}
+use Rattle.sets.specs.Sets.{has, meet}
 use Rattle.sets.proofs.Tests.{of-true}
 use Rattle.rows.specs.Over.{over}
 use Rattle.meaning.specs.Sheet.{kOf}
@@ -16,7 +16,7 @@ use Rattle.meaning.specs.Reaction.{running}
 use Rattle.meaning.specs.Tick.{tick}
 use Rattle.meaning.proofs.SheetLaws.{Sound, sound, k-le}
 use Rattle.sheet.proofs.Past.{head-read}
-use Rattle.reaction.specs.Plan.{timersWord, sourcesIn}
+use Rattle.reaction.specs.Plan.{timersWord}
 use Rattle.reaction.specs.Rounds.{tickOf, Before}
 use Rattle.reaction.proofs.PlanLaws.{running-meet}
 use Rattle.reaction.proofs.StartLaws.{begun-of}
@@ -24,7 +24,7 @@ use Rattle.run.specs.Counts.{totalOf}
 use Rattle.run.specs.States.{stateOf}
 use Rattle.run.proofs.LoopLaws.{input-below, later, ends-done, ends-foreign}
 use Rattle.simulator.proofs.DelayLaws.{delay-word}
-use Rattle.simulator.proofs.SheetRunLaws.{stateAt, ReachedModes, start-state, start-modes, tick-begins, tick-of, tick-refused, live-after, next-turn, next-quiet}
+use Rattle.simulator.proofs.SheetRunLaws.{stateAt, ReachedModes, start-state, start-modes, tick-begins, tick-of, tick-refused, tick-stayed, next-turn, next-quiet}
 use Rattle.simulator.proofs.sheet_run.ticks.Statement.{statement}
 use Rattle.simulator.proofs.sheet_run.ticks.Tie as tie
 
@@ -73,21 +73,15 @@ still c = c .before .before
 abbrev quiet-put : tie.After-slice-known2 Inv-loop μ-loop → tie.After-put-five Inv-loop μ-loop
 quiet-put c = c .before .before
 
--- else: what is triggered first from the rounds; the rounds, not refused; the transitions found live; the deadlines; the words put
+-- else: what is triggered first from the rounds; the rounds, not refused; what the tick leaves; the deadlines; the words put
 abbrev first : tie.After-rounds Inv-loop μ-loop → tie.After-first-triggered Inv-loop μ-loop
 first c = c .before .before
 
 abbrev reacted : tie.Else4 Inv-loop μ-loop → tie.After-rounds Inv-loop μ-loop
 reacted c = c .before .before
 
-abbrev allowed : tie.After-from-set2 Inv-loop μ-loop → tie.Else4 Inv-loop μ-loop
-allowed c = c .before .before
-
-abbrev gained : tie.After-minus2 Inv-loop μ-loop → tie.After-from-set2 Inv-loop μ-loop
-gained c = c .before .before .before
-
-abbrev lively : tie.After-restart Inv-loop μ-loop → tie.After-minus2 Inv-loop μ-loop
-lively c = c .before .before
+abbrev left : tie.After-restart Inv-loop μ-loop → tie.After-left-by Inv-loop μ-loop
+left c = c .before .before
 
 abbrev moved : tie.After-five-words Inv-loop μ-loop → tie.After-restart Inv-loop μ-loop
 moved c = c .before .before
@@ -95,11 +89,11 @@ moved c = c .before .before
 abbrev put : tie.After-slice-known3 Inv-loop μ-loop → tie.After-put-five2 Inv-loop μ-loop
 put c = c .before .before
 
-abbrev triggers : tie.After-restart Inv-loop μ-loop → tie.After-first-triggered Inv-loop μ-loop
-triggers c = first (reacted (allowed (gained (lively c))))
+abbrev triggers : tie.After-left-by Inv-loop μ-loop → tie.After-first-triggered Inv-loop μ-loop
+triggers c = first (reacted (c .before))
 
 abbrev inputs-left : tie.After-slice-known3 Inv-loop μ-loop → tie.In-loop Inv-loop μ-loop
-inputs-left c = inside (triggers (moved (put c .before)))
+inputs-left c = inside (triggers (left (moved (put c .before))))
 
 -- ---- what holds there
 
@@ -152,23 +146,6 @@ tick-is c =
     let at = head f in
     tick-of (at .loop .inv .0) (runs at) (due f .due-from .ensures .0) (start at .pre .0 .passes) (input-below _ _ (input-ok (known (due f))))
     (f .before .start-from .ensures) (f .first-triggered .ensures) (c .rounds .ensures)
-
--- the transitions whose source was entered; those whose source is active
-gained-is : (c : tie.After-from-set2 Inv-loop μ-loop)
-    → let o = reacted (allowed c) in c .from-set2 .result ≡ sourcesIn (start (head (first o)) .args .sheet .now) (o .rounds .result .changed % 2 ^ 32)
-gained-is c = c .from-set2 .ensures ∙ ap (sourcesIn _) (c .before .low .ensures)
-
-live-is : (c : tie.After-minus2 Inv-loop μ-loop)
-    → let o = reacted (allowed (gained c)) in c .minus2 .result ≡ sourcesIn (start (head (first o)) .args .sheet .now) (o .rounds .result .modes)
-live-is c =
-    let o = reacted (allowed (gained c)) in
-    let f = first o in
-    let at = head f in
-    c .minus2 .ensures
-    ∙ live-after (at .loop .inv .0) (runs at) (due f .due-from .ensures .0) (inside f .loop-test .taken) (input-ok (known (due f))) (tick-is o)
-    (gained-is (gained c))
-    (c .before .from-set3 .ensures
-    ∙ ap (sourcesIn _) (c .before .before .minus .ensures ∙ ap (λ (e : ℕ). minus (union (at .loop .x) e) (o .rounds .result .modes)) (gained c .before .low .ensures)))
 
 -- ---- the needs
 
@@ -254,9 +231,6 @@ put-five-requires c κs =
     let on = inside (still (quiet c)) in
     omega (arith, on .loop-test .taken, on .before .loop .inv .0 .timed .reached .room)
 
-add-i : tie.Need-add-i Inv-loop μ-loop
-add-i c = omega (arith, short (inside (still (quiet (quiet-put c .before)))))
-
 loop-less : tie.Need-loop-less Inv-loop μ-loop
 loop-less c = omega (arith, inside (still (quiet (quiet-put c .before))) .loop-test .taken)
 
@@ -302,45 +276,37 @@ returns-2 c =
       omega (arith, c .ended2 .ensures .1, at .loop .inv .1),
     )
 
-low-requires : tie.Need-low-requires Inv-loop μ-loop
-low-requires c κs = search needs
-
-from-set-requires-2 : tie.Need-from-set-requires-2 Inv-loop μ-loop
-from-set-requires-2 c κs = start (head (first (reacted (c .before)))) .pre .0
-
-minus-requires : tie.Need-minus-requires Inv-loop μ-loop
-minus-requires c κs = search needs
-
-from-set-requires-3 : tie.Need-from-set-requires-3 Inv-loop μ-loop
-from-set-requires-3 c κs = start (head (first (reacted (allowed (c .before))))) .pre .0
-
-minus-requires-2 : tie.Need-minus-requires-2 Inv-loop μ-loop
-minus-requires-2 c κs = search needs
+left-by-requires : tie.Need-left-by-requires Inv-loop μ-loop
+left-by-requires c κs =
+    let o = reacted c in
+    let f = first o in
+    let at = head f in (
+      start at .pre .0,
+      at .loop .inv .0 .sources,
+      tick-stayed (at .loop .inv .0) (runs at) (due f .due-from .ensures .0) (inside f .loop-test .taken) (input-ok (known (due f))) (tick-is o),
+    )
 
 restart-requires : tie.Need-restart-requires Inv-loop μ-loop
 restart-requires c κs =
-    let f = first (reacted (allowed (gained (c .before)))) in
+    let f = triggers (c .before) in
     let at = head f in
     (at .loop .inv .0 .timed .long, omega (arith, short (inside f)), λ t l. delay-word _ (start at .pre .1) t l (sheet-sound at))
 
 mul-put-five-2 : tie.Need-mul-put-five-2 Inv-loop μ-loop
-mul-put-five-2 c = omega (arith, short (inside (triggers (c .before))))
+mul-put-five-2 c = omega (arith, short (inside (triggers (left (c .before)))))
 
 five-words-requires : tie.Need-five-words-requires Inv-loop μ-loop
 five-words-requires c κs = search needs
 
 put-five-requires-2 : tie.Need-put-five-requires-2 Inv-loop μ-loop
 put-five-requires-2 c κs =
-    let on = inside (triggers (moved c)) in
+    let on = inside (triggers (left (moved c))) in
     omega (arith, on .loop-test .taken, on .before .loop .inv .0 .timed .reached .room)
 
 with-rounds-requires : tie.Need-with-rounds-requires Inv-loop μ-loop
 with-rounds-requires c κs =
     let on = inputs-left c in
     (omega (arith, short on, on .before .loop .inv .0 .few), on .before .loop .inv .1)
-
-add-i-2 : tie.Need-add-i-2 Inv-loop μ-loop
-add-i-2 c = omega (arith, short (inputs-left (c .before)))
 
 loop-less-2 : tie.Need-loop-less-2 Inv-loop μ-loop
 loop-less-2 c = omega (arith, inputs-left (c .before) .loop-test .taken)
@@ -349,18 +315,16 @@ loop-again-2 : tie.Need-loop-again-2 Inv-loop μ-loop
 loop-again-2 c =
     let out = put (c .before) in
     let dates = moved (out .before) in
-    let live = lively dates in
-    let ok = allowed (gained live) in
+    let leaves = left dates in
+    let ok = leaves .before in
     let o = reacted ok in
     let f = first o in
-    let at = head f in
-    let p = start at .pre in (
+    let at = head f in (
       next-turn (at .loop .inv .0) (runs at) (due f .due-from .ensures .0) (inside f .loop-test .taken) (input-ok (known (due f)))
           (tick-is o) (sym (ok .before .number .ensures) ∙ ok .if4 .left)
           (out .put-five2 .ensures ∙ ap (over (at .loop .out) (5 * at .loop .i)) (out .before .five-words .ensures))
-          (live-is live) (c .with-rounds .ensures .0)
-          (ap₂ meet (gained-is (gained live)) (ap₂ meet (live-is live) (p .0 .timingAt) ∙ running-meet _ _))
-          (p .1) (dates .restart .ensures) (λ t h l. zero-le),
+          (leaves .left-by .ensures .0) (c .with-rounds .ensures .0)
+          (leaves .left-by .ensures .1) (start at .pre .1) (dates .restart .ensures) (λ t h l. zero-le),
       c .with-rounds .ensures .1,
     )
 
@@ -384,7 +348,6 @@ ticks-spec =
     (tie.spec Inv-loop μ-loop element-copy-out-timers event-count-requires deadlines-requires from-set-requires
     start-of-requires loop-holds mul-input shared-slice-read-input shr-if1 ended-requires same-length returns add-now
     due-from-requires start-from-requires first-triggered-requires mul-put-five quiet-words-requires put-five-requires
-    add-i loop-less loop-again rounds-requires number-requires ended-requires-2 same-length-2 returns-2 low-requires
-    from-set-requires-2 minus-requires from-set-requires-3 minus-requires-2 restart-requires mul-put-five-2
-    five-words-requires put-five-requires-2 with-rounds-requires add-i-2 loop-less-2 loop-again-2 ended-requires-3
-    same-length-3 returns-3)
+    rounds-requires number-requires ended-requires-2 same-length-2 returns-2 left-by-requires restart-requires
+    mul-put-five-2 five-words-requires put-five-requires-2 with-rounds-requires loop-less loop-again loop-less-2
+    loop-again-2 ended-requires-3 same-length-3 returns-3)
