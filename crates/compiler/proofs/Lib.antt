@@ -1,4 +1,5 @@
 pub mod BlockTimerLaws
+pub mod AlikeLaws
 pub mod RowAfterRowLaws
 pub mod WalkSteps
 pub mod FillLaws
