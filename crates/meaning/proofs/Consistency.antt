@@ -560,7 +560,12 @@ module _ (s : List ℕ) (sd : Sound s) where
       bound : z .modes < 2 ^ nOf s
       bound = unfold consistent in (ltb→lt (z .modes) (2 ^ nOf s) (allOf-e _ h .0))
 
-  -- a tick from power-on or from a consistent set leaves a consistent set
+  -- a tick from power-on or from a consistent set begins in a consistent set
+  pub begin-consistent : (y : ℕ) → (y ≡ 0) ⊎ T (consistent s y) → T (consistent s (begin s y .modes))
+  unfolding Well
+  begin-consistent y h = let w = well-begin y h in cons-i (begin s y .modes) (w .1) (w .0)
+
+  -- and leaves a consistent set
   pub keeps-consistent : (y d i : ℕ) → (y ≡ 0) ⊎ T (consistent s y) → T (consistent s (tick s y d i .sets .modes))
   unfolding tick Well
   keeps-consistent y d i h =

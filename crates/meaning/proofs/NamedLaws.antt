@@ -2,7 +2,7 @@
 -- Assumes nothing.
 use mathlib.Core.Path.{_≡_, refl, sym, ap, ap₂, _∙_, subst}
 use mathlib.Core.Logic.{_⊎_, inl, inr, ⊎-elim}
-use mathlib.Core.Bool.{Bool, true, false, not, _&&_, _||_, cond, or-assoc}
+use mathlib.Core.Bool.{Bool, true, false, not, _&&_, _||_, cond}
 use mathlib.Core.List.{List, [], _∷_, map}
 use Prim.Native.Nat.{ℕ, zero, suc, _+_, _<_}
 use native.Mathlib.Omega.{arith}
@@ -13,7 +13,7 @@ use borrow.Author.Tests.{eqb-true, eqb-false}
 use Rattle.sets.specs.Sets.{has, union, single, someIn}
 use Rattle.sets.proofs.Tests.{is-false, of-false, and-l, and-r, and-i, or-e, or-l, or-r, bool-ext}
 use Rattle.sets.proofs.Facts.{union-e, union-l, union-r, setOf-e, setOf-i, some-e, some-i, someIn-e, someIn-i}
-use Rattle.sets.proofs.Membership.{has-none, has-union, same-members, setOf-same}
+use Rattle.sets.proofs.Membership.{has-none, has-union, same-members, setOf-same, union-assoc}
 use Rattle.meaning.specs.Lists.{allOf, firstOf}
 use Rattle.meaning.specs.Sheet.{nOf, kOf, tOf, source, termCount, termKind, termValue}
 use Rattle.meaning.specs.Check.{kindOk, termOk, sheetRefusal}
@@ -214,9 +214,6 @@ unfolding NamedEvents tick Agree
 named-events s x d i j h = rounds-same s d i j (suc (tOf s)) (begin s x) 0 (modes-active-begin s x) h
 
 -- ---- which modes are active in a tick
-
-union-assoc : (a b c : ℕ) → union (union a b) c ≡ union a (union b c)
-union-assoc a b c = same-members (λ i. simp (has-union, or-assoc))
 
 module _ (s : List ℕ) where
   -- what some transitions enter, and others

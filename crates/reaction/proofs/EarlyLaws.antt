@@ -1,40 +1,37 @@
 -- What is triggered in the first round of a tick: before anything is entered, exited or taken only the transitions of `early` need be
 -- judged; at power-on all that are judged in each round. Assumes nothing.
-use mathlib.Core.Path.{_≡_, refl, sym, ap, ap₂, _∙_, subst}
-use mathlib.Core.Bool.{Bool, true, false, not, _&&_}
+use mathlib.Core.Path.{_≡_, refl, sym, ap, _∙_, subst}
+use mathlib.Core.Bool.{Bool, true, false, not, _&&_, and-true}
 use mathlib.Core.List.{List}
 use Prim.Native.Nat.{ℕ, zero, suc, _-_, _^_, _≤_, _<_}
 use native.Mathlib.Nat.{lt-of-lt-of-le}
 use native.Mathlib.Omega.{arith}
 use lib.Dec.{T, ltb, lt→ltb}
 use lib.Bits.{or-zero-l}
-use lib.Pow.{pow-mono}
+use lib.Pow.{pow-mono, pow-pos}
 use borrow.Author.Tests.{ne-eqb}
 use Rattle.sets.specs.Sets.{has, union, meet, single, those}
 use Rattle.sets.proofs.Tests.{of-false}
 use Rattle.sets.proofs.Facts.{has-lt, setOf-e}
-use Rattle.sets.proofs.Membership.{ext, has-meet, has-below}
-use Rattle.sets.proofs.Those.{has-those, those-lt, those-same}
+use Rattle.sets.proofs.Membership.{ext, has-none, has-meet, has-below, setOf-ext}
+use Rattle.sets.proofs.Those.{has-those, those-lt}
 use Rattle.sets.proofs.Quantifiers.{meets-e, meets-i}
-use Rattle.meaning.specs.Sheet.{nOf, kOf, tOf, termKind, termValue}
+use Rattle.meaning.specs.Sheet.{nOf, kOf, tOf, source, termKind, termValue}
 use Rattle.meaning.specs.Check.{sheetRefusal}
 use Rattle.meaning.specs.Hierarchy.{complete}
-use Rattle.meaning.specs.Reaction.{TickSets, isDelay, isTimer, alternative, triggered}
+use Rattle.meaning.specs.Reaction.{TickSets, isDelay, isTimer, isDue, alternative, triggered}
 use Rattle.meaning.specs.Tick.{begin}
 use Rattle.meaning.proofs.SheetLaws.{sound, n-le}
 use Rattle.reaction.specs.Plan.{sourcesIn, eventsOnly, hitsOf, mixed, early}
 use Rattle.reaction.specs.Facts.{factsOf, openFacts, holdsBy, alternativeBy}
-use Rattle.reaction.specs.Rounds.{setsOf, tickBegun, Before}
-use Rattle.reaction.specs.declared.tick.Sets.{Sets}
 use Rattle.reaction.proofs.TermLaws.{none-by, mask-lt, alternative-by}
-use Rattle.reaction.proofs.TriggerLaws.{powered, power-on-begins, power-on-derived, input-lt, mixed-asks, triggered-words}
-use Rattle.reaction.proofs.RoundLaws.{tickBegun-derived}
+use Rattle.reaction.proofs.TriggerLaws.{Derived, input-lt, triggered-union}
 use Rattle.reaction.proofs.AboutLaws.{by-more}
 
 -- ---- what holds before anything is entered, exited or taken holds by the words `openFacts`
 
 -- the sets of a tick as it begins with the modes x
-abbrev begun : ℕ → TickSets
+abbrev pub begun : ℕ → TickSets
 begun x = record { modes = x; entered = 0; exited = 0; active = x; taken = 0 }
 
 -- every small number is in a full word
@@ -68,14 +65,6 @@ module _ (s : List ℕ) (h : sheetRefusal s ≡ 0) (i : ℕ) (b : i < 2 ^ 32) wh
       wide : nOf s ≤ 64
       wide = omega (arith, n-le s (sound s h))
 
-  -- ---- those that are judged, by the words and by the sets
-
-  judged-same : (x : ℕ) (z : TickSets)
-      → those 64 (meet x (mixed s)) (λ t. ltb 0 (alternativeBy s (factsOf i z) t)) ≡ those 64 (meet x (mixed s)) (λ t. ltb 0 (alternative s i z t))
-  judged-same x z =
-      those-same 64 (meet x (mixed s)) (λ t. ltb 0 (alternativeBy s (factsOf i z) t)) (λ t. ltb 0 (alternative s i z t))
-      (λ t l m. ap (ltb 0) (alternative-by s i z b t h (mixed-asks s x t m .0)))
-
   -- as a tick begins that is not the first, only those of `early` can hold
   judged-early : (y x : ℕ)
       → those 64 (meet y (mixed s)) (λ t. ltb 0 (alternative s i (begun x) t)) ≡ those 64 (meet y (early s)) (λ t. ltb 0 (alternative s i (begun x) t))
@@ -106,18 +95,17 @@ module _ (s : List ℕ) (h : sheetRefusal s ≡ 0) (i : ℕ) (b : i < 2 ^ 32) wh
 
 -- ---- what is triggered first
 
-module _ (s : List ℕ) (h : sheetRefusal s ≡ 0) where
-  begins : (x : ℕ) → (x ≡ 0 → ⊥) → begun x ≡ begin s x
-  unfolding begin
-  begins x n = rw (ne-eqb x 0 n)
+pub begins : (s : List ℕ) (x : ℕ) → (x ≡ 0 → ⊥) → begun x ≡ begin s x
+unfolding begin
+begins s x n = rw (ne-eqb x 0 n)
 
+module _ (s : List ℕ) (h : sheetRefusal s ≡ 0) where
   pub first-triggered : (x d i : ℕ) → (x ≡ 0 → ⊥) → i < 2 ^ kOf s → d < 2 ^ tOf s → ((t : ℕ) → T (has d t) → T (isTimer s t))
       → triggered s d i (begin s x)
       ≡ union (meet (sourcesIn s x) (union d (hitsOf s i))) (those 64 (meet (sourcesIn s x) (early s)) (λ t. ltb 0 (alternative s i (begin s x) t)))
   first-triggered x d i n b l k =
-      subst (λ (z : TickSets). triggered s d i z ≡ union sure (those 64 (meet live (early s)) (λ t. ltb 0 (alternative s i z t)))) (begins x n)
-      (sym (triggered-words s h start (tickBegun-derived s before refl) i b (hitsOf s i) (mixed s) refl refl (factsOf i (begun x)) _ refl refl)
-      ∙ ap (union sure) (judged-same s h i small live (begun x) ∙ judged-early s h i small live x))
+      subst (λ (z : TickSets). triggered s d i z ≡ union sure (those 64 (meet live (early s)) (λ t. ltb 0 (alternative s i z t)))) (begins s x n)
+      (sym (triggered-union s h (begun x) live d derived i b) ∙ ap (union sure) (judged-early s h i small live x))
     where
       live : ℕ
       live = sourcesIn s x
@@ -125,11 +113,13 @@ module _ (s : List ℕ) (h : sheetRefusal s ≡ 0) where
       sure : ℕ
       sure = meet live (union d (hitsOf s i))
 
-      start : Sets
-      start = tickBegun x live d
-
-      before : Before s x live d
-      before = record { sources = refl; small = l; timing = k; none = λ e. absurd (n e) }
+      derived : Derived s (begun x) live d
+      derived =
+          record {
+            sources = refl;
+            fresh = unfold isDue in (setOf-ext (tOf s) (isDue s d (begun x)) l (λ t m. sym (rw (has-none (source s t)) (and-true (has d t)))));
+            timing = k;
+          }
 
       small : i < 2 ^ 32
       small = omega (arith, input-lt s i h b)
@@ -137,19 +127,18 @@ module _ (s : List ℕ) (h : sheetRefusal s ≡ 0) where
   pub first-power-on : (i : ℕ) → i < 2 ^ kOf s
       → triggered s 0 i (begin s 0)
       ≡ union (meet (sourcesIn s (complete s (single 0))) (hitsOf s i)) (those 64 (meet (sourcesIn s (complete s (single 0))) (mixed s)) (λ t. ltb 0 (alternative s i (begin s 0) t)))
+  unfolding begin
   first-power-on i b =
-      subst (λ (z : TickSets). triggered s 0 i z ≡ union (meet live (hitsOf s i)) (those 64 (meet live (mixed s)) (λ t. ltb 0 (alternative s i z t)))) (power-on-begins s x live refl)
-      (sym (triggered-words s h start (power-on-derived s x live refl) i b (hitsOf s i) (mixed s) refl refl (factsOf i (setsOf start)) _ refl refl)
-      ∙ ap₂ (λ (p q : ℕ). union (meet live p) q) (or-zero-l (hitsOf s i)) (judged-same s h i small live (setsOf start)))
+      sym (triggered-union s h (begin s 0) live 0 derived i b)
+      ∙ ap (λ (p : ℕ). union (meet live p) (those 64 (meet live (mixed s)) (λ t. ltb 0 (alternative s i (begin s 0) t)))) (or-zero-l (hitsOf s i))
     where
-      x : ℕ
-      x = complete s (single 0)
-
       live : ℕ
-      live = sourcesIn s x
+      live = sourcesIn s (complete s (single 0))
 
-      start : Sets
-      start = powered s x live
-
-      small : i < 2 ^ 32
-      small = omega (arith, input-lt s i h b)
+      derived : Derived s (begin s 0) live 0
+      derived =
+          record {
+            sources = refl;
+            fresh = unfold isDue in (setOf-ext (tOf s) (isDue s 0 (begin s 0)) (pow-pos (tOf s)) (λ t l. has-none t ∙ sym (ap (λ (c : Bool). c && not (has (begin s 0 .entered) (source s t))) (has-none t))));
+            timing = λ t k. absurd (of-false (has-none t) k);
+          }

@@ -5,3 +5,5 @@ pub mod RoundLaws
 pub mod AboutLaws
 pub mod NextLaws
 pub mod EarlyLaws
+pub mod RoundLoop
+pub mod StartLaws

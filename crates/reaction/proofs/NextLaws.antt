@@ -26,7 +26,7 @@ use Rattle.meaning.proofs.TickLaws.{Taken, chosen-lt, modes-after, entered-afte
 use Rattle.meaning.proofs.Consistency.{entering-e, entering-i, source-on, clear-apart, consistent-after}
 use Rattle.meaning.proofs.HighestLevel.{source-exited}
 use Rattle.reaction.specs.Plan.{noSets, sourcesIn, conflictsOf, eventsOnly, hitsOf, mixed, wokenBy, nextOf}
-use Rattle.reaction.specs.Rounds.{roundsBy}
+use Rattle.reaction.specs.Rounds.{nextIn, roundsBy}
 use Rattle.reaction.proofs.TermLaws.{events-alone}
 use Rattle.reaction.proofs.TriggerLaws.{input-lt}
 use Rattle.reaction.proofs.RoundLaws.{clashes-ambiguous}
@@ -65,9 +65,6 @@ module _ (s : List ℕ) (h : sheetRefusal s ≡ 0) (ts : ℕ) (small : ts < 2 ^ 
 
 abbrev isNext : List ℕ → ℕ → ℕ → Bool
 isNext s es u = someIn (tOf s) es (λ t. has (nextOf s t) u)
-
-abbrev pub nextIn : List ℕ → ℕ → ℕ
-nextIn s es = setOf (tOf s) (λ u. someIn (tOf s) es (λ t. has (nextOf s t) u))
 
 module _ (s : List ℕ) (h : sheetRefusal s ≡ 0) (es u : ℕ) (l : u < tOf s) where
   -- their source is entered, or a term is about what one of es does

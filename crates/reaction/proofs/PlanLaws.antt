@@ -1,24 +1,24 @@
--- The transitions whose source is in a mode set, by the words of the plan, and the timers among them; an array
--- filled word by word. Assumes nothing.
-use mathlib.Core.Path.{_≡_, sym, ap₂, _∙_, subst}
+-- The transitions whose source is in a mode set, by the words of the plan, the timers among them, and the events that they name. Assumes
+-- nothing.
+use mathlib.Core.Path.{_≡_, sym, ap, ap₂, _∙_, subst}
 use mathlib.Core.Bool.{Bool, _&&_, and-comm}
 use mathlib.Core.List.{List}
 use Prim.Native.Nat.{ℕ, _+_, _%_, _^_, _<_}
 use native.Mathlib.Nat.{lt-of-le-of-lt, lt-of-lt-of-le, mod-eq-of-lt, pow-le-pow-right}
 use native.Mathlib.Omega.{arith}
-use lib.Dec.{T, eqb, eqb→eq, eqb-refl}
+use lib.Dec.{T, eqb→eq, eqb-refl}
 use lib.ListN.{getD}
-use Rattle.sets.specs.Sets.{has, union, meet, single, members, someIn}
-use Rattle.sets.proofs.Tests.{bool-ext}
-use Rattle.sets.proofs.Facts.{has-lt, someIn-e, someIn-i}
-use Rattle.sets.proofs.Membership.{has-meet, has-single, has-setOf, setOf-lt, setOf-ext, setOf-same, meet-le}
-use Rattle.sets.proofs.Members.{fold}
-use Rattle.sets.proofs.Widths.{union-over}
-use Rattle.meaning.specs.Sheet.{nOf, tOf, source}
+use Rattle.sets.specs.Sets.{has, meet, single, some, someIn}
+use Rattle.sets.proofs.Tests.{bool-ext, and-l, and-r, and-i}
+use Rattle.sets.proofs.Facts.{has-lt, setOf-e, setOf-i, some-e, some-i, someIn-e, someIn-i}
+use Rattle.sets.proofs.Membership.{has-meet, has-single, has-setOf, setOf-lt, setOf-ext, same-members, meet-le}
+use Rattle.sets.proofs.Quantifiers.{someIn-same}
+use Rattle.meaning.specs.Sheet.{nOf, kOf, tOf, source}
 use Rattle.meaning.specs.Hierarchy.{completedIn, complete}
 use Rattle.meaning.specs.Reaction.{isTimer, running}
+use Rattle.meaning.specs.NamedEvents.{names}
 use Rattle.meaning.proofs.SheetLaws.{sound, n-le}
-use Rattle.reaction.specs.Plan.{fromPart, startWord, FromPlanned, Planned, sourcesIn, timers}
+use Rattle.reaction.specs.Plan.{fromPart, namedPart, startWord, Planned, sourcesIn, namedIn, timers}
 
 module _ (s : List ℕ) where
   pub sourcesIn-lt : (x : ℕ) → sourcesIn s x < 2 ^ tOf s
@@ -29,6 +29,10 @@ module _ (s : List ℕ) where
   unfolding sourcesIn
   has-sourcesIn x t l = has-setOf (tOf s) (λ u. has x (source s u)) t l
 
+  pub sources-on : (x t : ℕ) → T (has (sourcesIn s x) t) → T (has x (source s t))
+  unfolding sourcesIn
+  sources-on x t k = setOf-e (tOf s) (λ u. has x (source s u)) t k .1
+
   -- the timers with a source in x
   pub running-meet : (x : ℕ) → meet (sourcesIn s x) (timers s) ≡ running s x
   unfolding timers running
@@ -36,32 +40,78 @@ module _ (s : List ℕ) where
       setOf-ext (tOf s) (λ t. isTimer s t && has x (source s t)) (lt-of-le-of-lt (meet-le (sourcesIn s x) (timers s)) (sourcesIn-lt x))
       (λ t l. has-meet (sourcesIn s x) (timers s) t ∙ ap₂ _&&_ (has-sourcesIn x t l) (has-setOf (tOf s) (isTimer s) t l) ∙ and-comm (has x (source s t)) (isTimer s t))
 
-  -- a transition's source is in x where one of the members of x is its source
-  some-from : (x t : ℕ) → x < 2 ^ 32 → t < tOf s → someIn 32 x (λ m. has (sourcesIn s (single m)) t) ≡ has x (source s t)
-  some-from x t b l = bool-ext (someIn 32 x p) (has x (source s t)) forth back
-    where
-      p : ℕ → Bool
-      p m = has (sourcesIn s (single m)) t
+-- ---- unions of words of the plan over the members of a mode set
 
-      from : (m : ℕ) → p m ≡ eqb (source s t) m
-      from m = has-sourcesIn (single m) t l ∙ has-single m (source s t)
+-- a mode in a set of one
+one-e : (m i : ℕ) → T (has (single m) i) → i ≡ m
+one-e m i k = eqb→eq i m (subst T (has-single m i) k)
 
-      forth : T (someIn 32 x p) → T (has x (source s t))
-      forth k =
-          let r = someIn-e 32 x p k in
-          subst (λ (m : ℕ). T (has x m)) (sym (eqb→eq (source s t) (r .0) (subst T (from (r .0)) (r .3)))) (r .2)
+one-i : (m : ℕ) → T (has (single m) m)
+one-i m = subst T (sym (has-single m m)) (eqb-refl m)
 
-      back : T (has x (source s t)) → T (someIn 32 x p)
-      back k =
-          let m = source s t in
-          someIn-i 32 x p m (has-lt 32 x m b k) k (subst T (sym (from m)) (eqb-refl m))
+module _ (s plan : List ℕ) (p : Planned s plan) (x : ℕ) (b : x < 2 ^ 32) where
+  -- the words of a part, each right, over the members of x
+  over-words : (part : ℕ) (f : ℕ → ℕ) (i : ℕ) → ((m : ℕ) → m < 32 → getD plan (part + m) 0 ≡ f m)
+      → someIn 32 x (λ m. has (getD plan (part + m) 0) i) ≡ someIn 32 x (λ m. has (f m) i)
+  over-words part f i e =
+      someIn-same 32 x (λ m. has (getD plan (part + m) 0) i) (λ m. has (f m) i) (λ m l. ap (λ (w : ℕ). has w i) (e m l))
 
-  -- the union of the words of the members of x
-  pub from-over : (plan : List ℕ) → FromPlanned s plan → (x : ℕ) → x < 2 ^ 32 → fold (λ a m. union a (getD plan (fromPart + m) 0)) 0 (members 32 x) ≡ sourcesIn s x
+  pub from-words : {r : ℕ} → ((i : ℕ) → has r i ≡ someIn 32 x (λ m. has (getD plan (fromPart + m) 0) i)) → r ≡ sourcesIn s x
   unfolding sourcesIn
-  from-over plan h x b =
-      union-over 32 32 (tOf s) x (λ m. getD plan (fromPart + m) 0) (λ m. sourcesIn s (single m)) b b h (λ m. sourcesIn-lt (single m))
-      ∙ setOf-same (tOf s) (λ t. someIn 32 x (λ m. has (sourcesIn s (single m)) t)) (λ t. has x (source s t)) (λ t l. some-from x t b l)
+  from-words {r} h = same-members (λ t. h t ∙ over-words fromPart (λ m. sourcesIn s (single m)) t (p .fromAt) ∙ sources t)
+    where
+      sources : (t : ℕ) → someIn 32 x (λ m. has (sourcesIn s (single m)) t) ≡ has (sourcesIn s x) t
+      sources t = bool-ext (someIn 32 x (λ m. has (sourcesIn s (single m)) t)) (has (sourcesIn s x) t) forth back
+        where
+          on : ℕ → ℕ → Bool
+          on y u = has y (source s u)
+
+          forth : T (someIn 32 x (λ m. has (sourcesIn s (single m)) t)) → T (has (sourcesIn s x) t)
+          forth k =
+              let r = someIn-e 32 x (λ m. has (sourcesIn s (single m)) t) k in
+              let a = setOf-e (tOf s) (on (single (r .0))) t (r .3) in
+              setOf-i (tOf s) (on x) t (a .0) (subst (λ (m : ℕ). T (has x m)) (sym (one-e (r .0) (source s t) (a .1))) (r .2))
+
+          back : T (has (sourcesIn s x) t) → T (someIn 32 x (λ m. has (sourcesIn s (single m)) t))
+          back k =
+              let a = setOf-e (tOf s) (on x) t k in
+              someIn-i 32 x (λ m. has (sourcesIn s (single m)) t) (source s t) (has-lt 32 x (source s t) b (a .1)) (a .1)
+              (setOf-i (tOf s) (on (single (source s t))) t (a .0) (one-i (source s t)))
+
+  pub named-words : {r : ℕ} → ((i : ℕ) → has r i ≡ someIn 32 x (λ m. has (getD plan (namedPart + m) 0) i)) → r ≡ namedIn s x
+  unfolding namedIn
+  named-words {r} h = same-members (λ e. h e ∙ over-words namedPart (λ m. namedIn s (single m)) e (p .namedAt) ∙ named e)
+    where
+      named : (e : ℕ) → someIn 32 x (λ m. has (namedIn s (single m)) e) ≡ has (namedIn s x) e
+      named e = bool-ext (someIn 32 x (λ m. has (namedIn s (single m)) e)) (has (namedIn s x) e) forth back
+        where
+          by : ℕ → ℕ → Bool
+          by y u = has y (source s u) && names s u e
+
+          at : ℕ → ℕ → Bool
+          at y v = some (tOf s) (λ u. has y (source s u) && names s u v)
+
+          forth : T (someIn 32 x (λ m. has (namedIn s (single m)) e)) → T (has (namedIn s x) e)
+          forth k =
+              let r = someIn-e 32 x (λ m. has (namedIn s (single m)) e) k in
+              let a = setOf-e (kOf s) (at (single (r .0))) e (r .3) in
+              let u = some-e (tOf s) (by (single (r .0))) (a .1) in
+              let m = source s (u .0) in
+              setOf-i (kOf s) (at x) e (a .0)
+              (some-i (tOf s) (by x) (u .0) (u .1)
+              (and-i (has x m) (names s (u .0) e)
+              (subst (λ (i : ℕ). T (has x i)) (sym (one-e (r .0) m (and-l (has (single (r .0)) m) (names s (u .0) e) (u .2)))) (r .2))
+              (and-r (has (single (r .0)) m) (names s (u .0) e) (u .2))))
+
+          back : T (has (namedIn s x) e) → T (someIn 32 x (λ m. has (namedIn s (single m)) e))
+          back k =
+              let a = setOf-e (kOf s) (at x) e k in
+              let u = some-e (tOf s) (by x) (a .1) in
+              let m = source s (u .0) in
+              let on = and-l (has x m) (names s (u .0) e) (u .2) in
+              someIn-i 32 x (λ i. has (namedIn s (single i)) e) m (has-lt 32 x m b on) on
+              (setOf-i (kOf s) (at (single m)) e (a .0)
+              (some-i (tOf s) (by (single m)) (u .0) (u .1) (and-i (has (single m) m) (names s (u .0) e) (one-i m) (and-r (has x m) (names s (u .0) e) (u .2)))))
 
 -- the word of the root completed is a mode set
 pub start-word : (s plan : List ℕ) → Planned s plan → getD plan startWord 0 % 2 ^ 32 ≡ complete s (single 0)

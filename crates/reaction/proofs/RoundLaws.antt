@@ -1,68 +1,34 @@
--- A round by the words of the plan is the round of the meaning, and the two derived sets stay right. Assumes nothing.
-use mathlib.Core.Path.{_≡_, refl, sym, ap, ap₂, _∙_, subst}
-use mathlib.Core.Bool.{Bool, true, false, not, _&&_, _||_, cond, and-true, and-comm}
+-- A round by the words of the plan is the round of the meaning. Assumes nothing.
+use mathlib.Core.Path.{_≡_, refl, sym, ap, _∙_}
+use mathlib.Core.Bool.{Bool, not, _&&_, and-comm}
 use mathlib.Core.List.{List}
-use Prim.Native.Nat.{ℕ, suc, _+_, _-_, _%_, _^_, _≤_, _<_}
-use native.Mathlib.Nat.{sub-zero, lt-of-lt-of-le, lt-of-le-of-lt, mod-eq-of-lt}
-use native.Mathlib.Numerals.{add-one}
+use Prim.Native.Nat.{ℕ, _+_, _*_, _/_, _%_, _^_, _<_}
+use native.Mathlib.Nat.{lt-of-lt-of-le, lt-of-le-of-lt, mod-lt}
 use native.Mathlib.Omega.{arith}
-use lib.Dec.{T, eqb, ltb}
-use lib.Pow.{pow-mono}
+use lib.Dec.{eqb}
+use lib.Pow.{pow-mono, pow-pos}
 use lib.ListN.{getD}
-use borrow.Author.Tests.{eq-eqb, ne-eqb}
 use Rattle.sets.specs.Sets.{has, union, meet, minus, meets, setOf, members, someIn}
-use Rattle.sets.proofs.Tests.{and-l}
-use Rattle.sets.proofs.Membership.{has-none, ext, has-union, has-minus, minus-meet, has-setOf, setOf-lt, setOf-ext, setOf-same, union-lt, minus-le, has-those, those-lt}
+use Rattle.sets.proofs.Membership.{ext, same-members, union-assoc, has-minus, minus-meet, has-join-low, has-low, has-shr, has-join-high, has-setOf, setOf-lt, union-lt, minus-le, has-those, those-lt}
 use Rattle.sets.proofs.Members.{fold, fold-part}
 use Rattle.sets.proofs.Quantifiers.{some-same, someIn-same, someIn-swap, meets-some}
 use Rattle.sets.proofs.Widths.{meet-setOf, has-over, union-over}
-use Rattle.meaning.specs.Sheet.{nOf, tOf, source}
-use Rattle.meaning.specs.Refusal.{numberOf}
-use Rattle.meaning.specs.declared.refusal.Refusal.{Refusal}
-use Rattle.meaning.specs.declared.refusal.Refusal.the-variants.{Nothing, Ambiguous, Restless}
+use Rattle.meaning.specs.Sheet.{nOf, tOf}
 use Rattle.meaning.specs.Hierarchy.{complete, exits, enters}
 use Rattle.meaning.specs.GivesWay.{givesWay}
-use Rattle.meaning.specs.Reaction.{TickSets, isDelay, delay, isTimer, alternative, isDue, trigger, triggered, conflict, eligible, ambiguous, restless, exiting, entering, afterRound}
-use Rattle.meaning.specs.Tick.{Tick, begin, chosen, roundsFrom, tick}
-use Rattle.meaning.proofs.SheetLaws.{Sound, n-le}
-use Rattle.reaction.proofs.PlanLaws.{sourcesIn-lt, has-sourcesIn}
-use Rattle.reaction.specs.Plan.{exitsPart, entersPart, conflictsPart, losesPart, gainsPart, sourcesIn, conflictsOf, yieldersOf, Planned}
-use Rattle.reaction.specs.Rounds.{setsOf, tickOf, Derived, exitsOf, MovesOf, addMove, afterMoves, tickBegun, Before}
+use Rattle.meaning.specs.Reaction.{TickSets, triggered, conflict, eligible, ambiguous, restless, exiting, entering, afterRound}
+use Rattle.meaning.proofs.SheetLaws.{sound, n-le}
+use Rattle.reaction.specs.Plan.{endsPart, conflictsPart, nextPart, conflictsOf, yieldersOf, wokenBy, nextOf, Planned}
+use Rattle.reaction.specs.Rounds.{setsOf, afterEnds, addMove, exitsOf, MovesOf}
 use Rattle.reaction.specs.declared.tick.Sets.{Sets}
-use Rattle.reaction.specs.declared.tick.Ticked.{Ticked}
 use Rattle.reaction.specs.declared.tick.Moves.{Moves}
-
--- ---- the moves and the sets after a round, in the words of the code
+use Rattle.reaction.proofs.PlanLaws.{sourcesIn-lt}
 
 -- the moves of no transition
 abbrev pub noMoves : Moves
-noMoves = record { exits = 0; enters = 0; loses = 0; gains = 0; clashes = 0 }
-
--- the sets after a round in the words that the code computes first
-pub after-words : (z : Sets) (m : Moves) (es out in′ stay live due : ℕ) → out ≡ m .exits % 2 ^ 32 → in′ ≡ m .enters % 2 ^ 32 → stay ≡ minus (z .modes) out
-    → live ≡ minus (z .live) (m .loses) → due ≡ minus (z .due) (m .gains)
-    → record {
-      modes = union stay in′;
-      entered = union (z .entered) in′;
-      exited = union (z .exited) (meet (z .modes) out);
-      active = union (z .active) in′;
-      taken = union (z .taken) es;
-      live = union live (m .gains);
-      due = due;
-    } ≡ afterMoves z m es
-after-words z m es out in′ stay live due p q r s t = cc
-
--- ---- the transitions whose source is in a mode set
+noMoves = record { ends = 0; clashes = 0; next = 0 }
 
 module _ (s : List ℕ) where
-  -- those of a without b, and c
-  sources-after : (a b c : ℕ) → union (minus (sourcesIn s a) (sourcesIn s b)) (sourcesIn s c) ≡ sourcesIn s (union (minus a b) c)
-  sources-after a b c =
-      ext (tOf s)
-      (union-lt (tOf s) (lt-of-le-of-lt (minus-le (sourcesIn s a) (sourcesIn s b)) (sourcesIn-lt s a)) (sourcesIn-lt s c))
-      (sourcesIn-lt s (union (minus a b) c))
-      (λ t l. simp (has-union, has-minus, has-sourcesIn s a t l, has-sourcesIn s b t l, has-sourcesIn s c t l, has-sourcesIn s (union (minus a b) c) t l))
-
   -- ---- eligible: the triggered transitions without those that give way to one of them
 
   pub yielders-small : (t : ℕ) → yieldersOf s t < 2 ^ tOf s
@@ -104,16 +70,6 @@ module _ (s : List ℕ) where
 
   -- ---- what transitions do together, by the words of the plan
 
-  -- the transitions whose source is in a union
-  sources-over : (w es : ℕ) (h : ℕ → ℕ) → ((t : ℕ) → h t < 2 ^ w)
-      → setOf (tOf s) (λ u. someIn (tOf s) es (λ t. has (sourcesIn s (h t)) u)) ≡ sourcesIn s (setOf w (λ m. someIn (tOf s) es (λ t. has (h t) m)))
-  unfolding sourcesIn
-  sources-over w es h b =
-      setOf-same (tOf s) (λ u. someIn (tOf s) es (λ t. has (sourcesIn s (h t)) u)) (λ u. has (setOf w (λ m. someIn (tOf s) es (λ t. has (h t) m))) (source s u))
-      (λ u l.
-      someIn-same (tOf s) es (λ t. has (sourcesIn s (h t)) u) (λ t. has (h t) (source s u)) (λ t k. has-sourcesIn s (h t) u l)
-      ∙ sym (has-over (tOf s) w es h b (source s u)))
-
   module _ (plan : List ℕ) (pl : Planned s plan) (es : ℕ) (h : es < 2 ^ 64) (l : es < 2 ^ tOf s) where
     -- the part of a loop's moves that is read at a place of the plan
     moved : (w at : ℕ) (part : Moves → ℕ) (g : ℕ → ℕ) → ((m : Moves) (t : ℕ) → part (addMove plan m t) ≡ union (part m) (getD plan (at + t) 0))
@@ -124,19 +80,54 @@ module _ (s : List ℕ) where
         ∙ ap (λ (x : ℕ). fold (λ y t. union y (getD plan (at + t) 0)) x (members 64 es)) z
         ∙ union-over 64 (tOf s) w es (λ t. getD plan (at + t) 0) g h l r b
 
-    pub moves-all : MovesOf s es (fold (addMove plan) noMoves (members 64 es))
-    unfolding exitsOf entering conflictsOf
+    abbrev all : Moves
+    all = fold (addMove plan) noMoves (members 64 es)
+
+    -- what t exits and enters, in one word
+    abbrev both : ℕ → ℕ
+    both t = enters s t * 2 ^ 32 + exits s t
+
+    narrow : {x : ℕ} → x < 2 ^ nOf s → x < 2 ^ 32
+    narrow k = lt-of-lt-of-le k (pow-mono (n-le s (sound s (pl .passes))))
+
+    ends-word : all .ends ≡ setOf 64 (λ i. someIn (tOf s) es (λ t. has (both t) i))
+    ends-word = moved 64 endsPart (λ m. m .ends) both (λ m t. refl) refl (pl .endsAt) (λ t. omega (arith, narrow (exits-small t), narrow (enters-small t)))
+
+    ends-at : (i : ℕ) → i < 64 → has (all .ends) i ≡ someIn (tOf s) es (λ t. has (both t) i)
+    ends-at i k = ap (λ (x : ℕ). has x i) ends-word ∙ has-setOf 64 (λ j. someIn (tOf s) es (λ t. has (both t) j)) i k
+
+    exits-word : all .ends % 2 ^ 32 ≡ exitsOf s es
+    unfolding exitsOf
+    exits-word =
+        ext 32 (mod-lt (all .ends) (pow-pos 32)) (narrow (setOf-lt (nOf s) _))
+        (λ i k.
+        has-low 32 (all .ends) i k
+        ∙ ends-at i (omega arith)
+        ∙ someIn-same (tOf s) es (λ t. has (both t) i) (λ t. has (exits s t) i) (λ t l. has-join-low 32 (enters s t) (exits s t) i k)
+        ∙ sym (has-over (tOf s) (nOf s) es (exits s) exits-small i))
+
+    enters-word : all .ends / 2 ^ 32 ≡ entering s es
+    unfolding entering
+    enters-word =
+        same-members (λ i.
+        has-shr 32 (all .ends) i
+        ∙ ap (λ (x : ℕ). has x (32 + i)) ends-word
+        ∙ has-over (tOf s) 64 es both (λ t. omega (arith, narrow (exits-small t), narrow (enters-small t))) (32 + i)
+        ∙ someIn-same (tOf s) es (λ t. has (both t) (32 + i)) (λ t. has (enters s t) i) (λ t l. has-join-high 32 (enters s t) (exits s t) i (narrow (exits-small t)))
+        ∙ sym (has-over (tOf s) (nOf s) es (enters s) enters-small i))
+
+    next-small : (t : ℕ) → nextOf s t < 2 ^ tOf s
+    unfolding nextOf wokenBy
+    next-small t = union-lt (tOf s) (sourcesIn-lt s (enters s t)) (setOf-lt (tOf s) _)
+
+    pub moves-all : MovesOf s es all
+    unfolding conflictsOf
     moves-all =
         record {
-          exits = moved (nOf s) exitsPart (λ m. m .exits) (exits s) (λ m t. refl) refl (pl .exitsAt) exits-small;
-          enters = moved (nOf s) entersPart (λ m. m .enters) (enters s) (λ m t. refl) refl (pl .entersAt) enters-small;
-          loses =
-              moved (tOf s) losesPart (λ m. m .loses) (λ t. sourcesIn s (exits s t)) (λ m t. refl) refl (pl .losesAt) (λ t. sourcesIn-lt s (exits s t))
-              ∙ sources-over (nOf s) es (exits s) exits-small;
-          gains =
-              moved (tOf s) gainsPart (λ m. m .gains) (λ t. sourcesIn s (enters s t)) (λ m t. refl) refl (pl .gainsAt) (λ t. sourcesIn-lt s (enters s t))
-              ∙ sources-over (nOf s) es (enters s) enters-small;
+          exits = exits-word;
+          enters = enters-word;
           clashes = moved (tOf s) conflictsPart (λ m. m .clashes) (conflictsOf s) (λ m t. refl) refl (pl .conflictsAt) (λ t. setOf-lt (tOf s) _);
+          next = moved (tOf s) nextPart (λ m. m .next) (nextOf s) (λ m t. refl) refl (pl .nextAt) next-small;
         }
 
   -- ---- 8 and 9
@@ -158,10 +149,10 @@ module _ (s : List ℕ) where
       apart : ℕ → ℕ → Bool
       apart t u = not (eqb t u) && conflict s t u
 
-  clash : (es : ℕ) (m : Moves) → MovesOf s es m → meets (m .clashes) es ≡ ambiguous s es
+  pub clash : (es : ℕ) (m : Moves) → MovesOf s es m → meets (m .clashes) es ≡ ambiguous s es
   clash es m h = ap (λ (x : ℕ). meets x es) (h .clashes) ∙ clashes-ambiguous es
 
-  taken-again : (z : TickSets) (es : ℕ) → es < 2 ^ tOf s → meets es (z .taken) ≡ restless s z es
+  pub taken-again : (z : TickSets) (es : ℕ) → es < 2 ^ tOf s → meets es (z .taken) ≡ restless s z es
   unfolding restless someIn
   taken-again z es h = meets-some (tOf s) es (z .taken) h
 
@@ -171,191 +162,7 @@ module _ (s : List ℕ) where
   unfolding exitsOf exiting
   exits-active z es = meet-setOf (nOf s) (z .modes) _
 
-  module _ (sd : Sound s) (z : Sets) (es : ℕ) (m : Moves) (h : MovesOf s es m) where
-    -- a mode set fits 32 places
-    narrow : {x y : ℕ} → x ≡ y → y < 2 ^ nOf s → x % 2 ^ 32 ≡ y
-    narrow e l = rw e (mod-eq-of-lt (lt-of-lt-of-le l (pow-mono (n-le s sd))))
-
-    exits-word : m .exits % 2 ^ 32 ≡ exitsOf s es
-    unfolding exitsOf
-    exits-word = narrow (h .exits) (setOf-lt (nOf s) _)
-
-    enters-word : m .enters % 2 ^ 32 ≡ entering s es
-    unfolding entering
-    enters-word = narrow (h .enters) (setOf-lt (nOf s) _)
-
-    after-moves : setsOf (afterMoves z m es) ≡ afterRound s (setsOf z) es
-    unfolding afterRound
-    after-moves = simp (exits-word, enters-word, ← minus-meet (z .modes) (exitsOf s es), exits-active (setsOf z) es)
-
-  -- ---- the derived sets along the rounds of a tick with the due timers d
-
-  pub record Along (d : ℕ) (z : Sets) : Type 0 where
-    pub live : z .live ≡ sourcesIn s (z .modes)
-    pub due : z .due ≡ setOf (tOf s) (isDue s d (setsOf z))
-    pub timing : (t : ℕ) → T (has (z .due) t) → T (isTimer s t)
-
-  -- what is due of the derived set is what is due of d
-  due-same : (d : ℕ) (z : Sets) → Along d z → (t : ℕ) → t < tOf s → isDue s d (setsOf z) t ≡ isDue s (z .due) (setsOf z) t
-  unfolding isDue
-  due-same d z h t l =
-      table (has d t) (has (z .entered) (source s t))
-      ∙ ap (λ (b : Bool). b && not (has (z .entered) (source s t))) (sym (ap (λ (x : ℕ). has x t) (h .due) ∙ has-setOf (tOf s) (isDue s d (setsOf z)) t l))
-    where
-      table : (x y : Bool) → (x && not y) ≡ ((x && not y) && not y)
-      table true true = refl
-      table true false = refl
-      table false y = refl
-
-  pub along-derived : (d : ℕ) (z : Sets) → Along d z → Derived s z
-  along-derived d z h =
-      record {
-        live = h .live;
-        due = h .due ∙ setOf-same (tOf s) (isDue s d (setsOf z)) (isDue s (z .due) (setsOf z)) (due-same d z h);
-        timing = h .timing;
-      }
-
-  along-triggered : (d i : ℕ) (z : Sets) → Along d z → triggered s (z .due) i (setsOf z) ≡ triggered s d i (setsOf z)
-  unfolding triggered trigger
-  along-triggered d i z h =
-      setOf-same (tOf s) (λ t. ltb 0 (trigger s (z .due) i (setsOf z) t)) (λ t. ltb 0 (trigger s d i (setsOf z) t))
-      (λ t l. ap (λ (b : Bool).
-      ltb 0 (cond (not (has (z .modes) (source s t))) 0 (cond (isDelay s t) (cond (eqb (delay s t) 0 || b) 9 0) (alternative s i (setsOf z) t))))
-      (sym (due-same d z h t l)))
-
-  -- once its source is entered, a timer is not due
-  due-entered : (d e x : ℕ)
-      → minus (setOf (tOf s) (λ t. has d t && not (has e (source s t)))) (sourcesIn s x) ≡ setOf (tOf s) (λ t. has d t && not (has (union e x) (source s t)))
-  due-entered d e x =
-      setOf-ext (tOf s) (λ t. has d t && not (has (union e x) (source s t)))
-      (lt-of-le-of-lt (minus-le (setOf (tOf s) (λ t. has d t && not (has e (source s t)))) (sourcesIn s x)) (setOf-lt (tOf s) (λ t. has d t && not (has e (source s t)))))
-      (λ t l.
-      has-minus (setOf (tOf s) (λ u. has d u && not (has e (source s u)))) (sourcesIn s x) t
-      ∙ ap₂ (λ a b. a && not b) (has-setOf (tOf s) (λ u. has d u && not (has e (source s u))) t l) (has-sourcesIn s x t l)
-      ∙ table (has d t) (has e (source s t)) (has x (source s t))
-      ∙ ap (λ (b : Bool). has d t && not b) (sym (has-union e x (source s t))))
-    where
-      table : (a b c : Bool) → ((a && not b) && not c) ≡ (a && not (b || c))
-      table true true c = refl
-      table true false c = refl
-      table false b c = refl
-
-  along-after : Sound s → (d : ℕ) (z : Sets) (es : ℕ) (m : Moves) → MovesOf s es m → Along d z → Along d (afterMoves z m es)
-  unfolding isDue
-  along-after sd d z es m h a =
-      record {
-        live =
-            simp (a .live, h .loses, h .gains, exits-word sd z es m h, enters-word sd z es m h, sources-after);
-        due =
-            ap₂ minus (a .due) (h .gains)
-            ∙ due-entered d (z .entered) (entering s es)
-            ∙ ap (λ (x : ℕ). setOf (tOf s) (λ t. has d t && not (has (union (z .entered) x) (source s t)))) (sym (enters-word sd z es m h));
-        timing = λ t k. a .timing t (and-l (has (z .due) t) (not (has (m .gains) t)) (subst T (has-minus (z .due) (m .gains) t) k));
-      }
-
--- ---- the loop over the rounds of a tick from the sets `start` on the input i
-
-module _ (s : List ℕ) (start : Sets) (i : ℕ) where
-  abbrev all : Tick
-  all = roundsFrom s (suc (tOf s)) (start .due) i (setsOf start) 0
-
-  -- what a tick gives is right
-  abbrev Gives : Ticked → Type 0
-  Gives t = (tickOf t ≡ all) × (t .sets .live ≡ sourcesIn s (t .sets .modes))
-
-  -- after r rounds, with the sets z: what is left of the rounds gives what all give
-  pub record Left (z : Sets) (r : ℕ) : Type 0 where
-    pub within : r ≤ suc (tOf s)
-    pub along : Along s (start .due) z
-    pub same : roundsFrom s (suc (tOf s) - r) (start .due) i (setsOf z) r ≡ all
-
-  -- one more round, with the eligible transitions es
-  pub record Round (z : Sets) (r es : ℕ) : Type 0 where
-    pub left : Left z r
-    pub within : r ≤ tOf s
-    pub chosen : es ≡ eligible s (triggered s (z .due) i (setsOf z))
-
-  pub left-start : Derived s start → Left start 0
-  left-start h = record { within = omega arith; along = record { live = h .live; due = h .due; timing = h .timing }; same = simp sub-zero }
-
-  -- the tick ends with refusal `why`
-  given : (z : Sets) (r : ℕ) (why : Refusal) → Left z r → record { refusal = numberOf why; sets = setsOf z; rounds = r } ≡ all
-      → {t : Ticked} → t ≡ record { refusal = why; sets = z; rounds = r } → Gives t
-  given z r why l p e = subst Gives (sym e) (p, l .along .live)
-
-  -- nothing is left
-  pub left-none : {z : Sets} {r : ℕ} → Left z r → tOf s < r → {t : Ticked} → t ≡ record { refusal = Nothing; sets = z; rounds = r } → Gives t
-  unfolding roundsFrom
-  left-none {z} {r} l h =
-      let e : suc (tOf s) - r ≡ 0 = omega arith in
-      given z r Nothing l (ap (λ (f : ℕ). roundsFrom s f (start .due) i (setsOf z) r) (sym e) ∙ l .same)
-
--- a round ends the tick, or is taken
-module _ {s : List ℕ} {start : Sets} {i : ℕ} {z : Sets} {r es : ℕ} (h : Round s start i z r es) where
-  abbrev ended : ℕ → Tick
-  ended why = record { refusal = why; sets = setsOf z; rounds = r }
-
-  next : cond (eqb es 0) (ended 0) (cond (ambiguous s es) (ended 8) (cond (restless s (setsOf z) es) (ended 9)
-      (roundsFrom s (tOf s - r) (start .due) i (afterRound s (setsOf z) es) (suc r)))) ≡ all s start i
-  unfolding roundsFrom chosen
-  next =
-      let c : es ≡ chosen s (start .due) i (setsOf z) = h .chosen ∙ ap (eligible s) (along-triggered s (start .due) i z (h .left .along)) in
-      let f : suc (tOf s) - r ≡ suc (tOf s - r) = omega arith in
-      ap (λ (x : ℕ).
-      cond (eqb x 0) (ended 0) (cond (ambiguous s x) (ended 8) (cond (restless s (setsOf z) x) (ended 9)
-      (roundsFrom s (tOf s - r) (start .due) i (afterRound s (setsOf z) x) (suc r))))) c
-      ∙ ap (λ (x : ℕ). roundsFrom s x (start .due) i (setsOf z) r) (sym f)
-      ∙ h .left .same
-
-  small : es < 2 ^ tOf s
-  small = rw (h .chosen) (eligible-small s (triggered s (z .due) i (setsOf z)))
-
-  pub round-still : es ≡ 0 → {t : Ticked} → t ≡ record { refusal = Nothing; sets = z; rounds = r } → Gives s start i t
-  round-still a = given s start i z r Nothing (h .left) (rw (eq-eqb es 0 a) at next)
-
-  module _ {m : Moves} (o : MovesOf s es m) (a : es ≡ 0 → ⊥) where
-    pub round-ambiguous : meets (m .clashes) es ≡ true → {t : Ticked} → t ≡ record { refusal = Ambiguous; sets = z; rounds = r } → Gives s start i t
-    round-ambiguous b = given s start i z r Ambiguous (h .left) (rw (ne-eqb es 0 a, sym (clash s es m o) ∙ b) at next)
-
-    module _ (b : meets (m .clashes) es ≡ false) where
-      pub round-restless : meets es (z .taken) ≡ true → {t : Ticked} → t ≡ record { refusal = Restless; sets = z; rounds = r } → Gives s start i t
-      round-restless c =
-          given s start i z r Restless (h .left)
-          (rw (ne-eqb es 0 a, sym (clash s es m o) ∙ b, sym (taken-again s (setsOf z) es small) ∙ c) at next)
-
-      pub round-taken : Sound s → meets es (z .taken) ≡ false → Left s start i (afterMoves z m es) (r + 1)
-      round-taken sd c =
-          let f : tOf s - r ≡ suc (tOf s) - (r + 1) = omega arith in
-          record {
-            within = omega (arith, h .within);
-            along = along-after s sd (start .due) z es m o (h .left .along);
-            same =
-                ap (λ (x : TickSets). roundsFrom s (suc (tOf s) - (r + 1)) (start .due) i x (r + 1)) (after-moves s sd z es m o)
-                ∙ ap₂ (λ (x y : ℕ). roundsFrom s x (start .due) i (afterRound s (setsOf z) es) y) (sym f) (add-one r)
-                ∙ (rw (ne-eqb es 0 a, sym (clash s es m o) ∙ b, sym (taken-again s (setsOf z) es small) ∙ c) at next);
-          }
-
--- ---- the sets before the first round
-
-module _ (s : List ℕ) where
-  pub tickBegun-derived : {modes live due : ℕ} {z : Sets} → Before s modes live due → z ≡ tickBegun modes live due → Derived s z
-  unfolding isDue
-  tickBegun-derived {modes} {live} {due} b e =
-      subst (Derived s) (sym e)
-      (record {
-        live = b .sources;
-        due = setOf-ext (tOf s) (isDue s due (setsOf (tickBegun modes live due))) (b .small) (λ t l. sym (rw (has-none (source s t)) (and-true (has due t))));
-        timing = b .timing;
-      })
-
-  -- a tick that is not the first
-  pub tick-tickBegun : {modes live due : ℕ} {z : Sets} {t : Tick} (i : ℕ) → (modes ≡ 0 → ⊥) → z ≡ tickBegun modes live due
-      → t ≡ roundsFrom s (suc (tOf s)) (z .due) i (setsOf z) 0 → t ≡ tick s modes due i
-  unfolding tick begin
-  tick-tickBegun {modes} {live} {due} i n e g = g ∙ rw (ne-eqb modes 0 n, e)
-
-  -- the first tick
-  pub tick-first : {modes due : ℕ} (z : Sets) {t : Tick} (i : ℕ) → modes ≡ 0 → due ≡ 0 → setsOf z ≡ begin s 0 → z .due ≡ 0
-      → t ≡ roundsFrom s (suc (tOf s)) (z .due) i (setsOf z) 0 → t ≡ tick s modes due i
-  unfolding tick
-  tick-first z i m d e k g = g ∙ rw (m, d, e, k)
+  pub after-ends : (begun : ℕ) (z : Sets) (es : ℕ) (m : Moves) → MovesOf s es m → setsOf begun (afterEnds z (m .ends) es) ≡ afterRound s (setsOf begun z) es
+  unfolding afterRound
+  after-ends begun z es m h =
+      simp (h .exits, h .enters, ← minus-meet (z .modes) (exitsOf s es), exits-active (setsOf begun z) es, ← union-assoc begun (z .entered) (entering s es))

@@ -2,7 +2,7 @@
 use mathlib.Core.Path.{_≡_}
 use mathlib.Core.Bool.{Bool, not, _&&_, _||_, cond}
 use mathlib.Core.List.{List}
-use Prim.Native.Nat.{ℕ, _+_, _^_, _<_}
+use Prim.Native.Nat.{ℕ, _+_, _*_, _^_, _<_}
 use lib.Dec.{eqb, ltb}
 use lib.ListN.{getD}
 use Rattle.sets.specs.Sets.{has, union, meets, single, setOf, those, some, every}
@@ -15,59 +15,63 @@ use Rattle.meaning.specs.NamedEvents.{names}
 use Rattle.reaction.specs.Facts.{openFacts, alternativeBy}
 
 -- ---- where the parts of the plan begin: 64 words each, one for a transition or an input set, but 32 from `fromPart` on, one for a
--- mode; then three words and the end
+-- mode; then five words and the end
 
--- the modes that a transition exits if they are active
-abbrev pub exitsPart : ℕ
-exitsPart = 0
-
--- the modes that a transition enters
-abbrev pub entersPart : ℕ
-entersPart = 64
+-- the modes that a transition exits if they are active and, from bit 32 on, those that it enters
+abbrev pub endsPart : ℕ
+endsPart = 0
 
 -- the other transitions in conflict with a transition
 abbrev pub conflictsPart : ℕ
-conflictsPart = 128
+conflictsPart = 64
 
 -- the transitions that give way to a transition
 abbrev pub yieldersPart : ℕ
-yieldersPart = 192
+yieldersPart = 128
 
--- the transitions whose source a transition exits
-abbrev pub losesPart : ℕ
-losesPart = 256
-
--- the transitions whose source a transition enters
-abbrev pub gainsPart : ℕ
-gainsPart = 320
+-- the transitions that a round which takes a transition can trigger next
+abbrev pub nextPart : ℕ
+nextPart = 192
 
 -- the delay of a timer, 0 of another transition
 abbrev pub delaysPart : ℕ
-delaysPart = 384
+delaysPart = 256
 
 -- the transitions that an input set triggers by itself
 abbrev pub hitsPart : ℕ
-hitsPart = 448
+hitsPart = 320
 
 -- the transitions whose source is a mode
 abbrev pub fromPart : ℕ
-fromPart = 512
+fromPart = 384
+
+-- the events that transitions name whose source is a mode
+abbrev pub namedPart : ℕ
+namedPart = 416
 
 -- the timers
 abbrev pub timersWord : ℕ
-timersWord = 544
+timersWord = 448
 
--- the transitions whose terms are judged in each round
+-- the transitions whose terms are judged
 abbrev pub mixedWord : ℕ
-mixedWord = 545
+mixedWord = 449
+
+-- those of them that are judged where a tick begins
+abbrev pub earlyWord : ℕ
+earlyWord = 450
+
+-- the events that any transition names
+abbrev pub eventsWord : ℕ
+eventsWord = 451
 
 -- the root, completed
 abbrev pub startWord : ℕ
-startWord = 546
+startWord = 452
 
 -- how many words a plan is
 abbrev pub planSize : ℕ
-planSize = 547
+planSize = 453
 
 -- the sets of a tick in which nothing has happened
 abbrev pub noSets : TickSets
@@ -106,7 +110,7 @@ module _ (s : List ℕ) where
   hitsOf i =
       setOf (tOf s) (λ t. cond (isDelay s t) (eqb (delay s t) 0) (eventsOnly t && ltb 0 (alternative s i noSets t)))
 
-  -- the transitions whose terms are judged in each round
+  -- the transitions whose terms are judged: they speak of more than events
   unfoldable pub mixed : ℕ
   mixed = setOf (tOf s) (λ t. not (isDelay s t) && not (eventsOnly t))
 
@@ -126,7 +130,7 @@ module _ (s : List ℕ) where
   unfoldable pub nextOf : ℕ → ℕ
   nextOf t = union (sourcesIn (enters s t)) (wokenBy t)
 
-  -- of those judged in each round, the transitions whose terms can hold before anything is entered, exited or taken: an
+  -- of those that are judged, the transitions whose terms can hold before anything is entered, exited or taken: an
   -- alternative is about events and active modes alone
   unfoldable pub early : ℕ
   early = those 64 mixed (λ t. ltb 0 (alternativeBy s openFacts t))
@@ -138,22 +142,19 @@ module _ (s : List ℕ) where
   unfoldable pub namedAll : ℕ
   namedAll = setOf (kOf s) (λ e. some (tOf s) (λ t. names s t e))
 
-  -- the part FROM of an array of words is right: the transitions with source m
-  abbrev pub FromPlanned : List ℕ → Type 0
-  FromPlanned plan = (m : ℕ) → m < 32 → getD plan (fromPart + m) 0 ≡ sourcesIn (single m)
-
   -- the sheet passes 1 to 6, and an array of words is its plan
   pub record Planned (plan : List ℕ) : Type 0 where
     pub passes : sheetRefusal s ≡ 0
-    pub exitsAt : (t : ℕ) → t < tOf s → getD plan (exitsPart + t) 0 ≡ exits s t
-    pub entersAt : (t : ℕ) → t < tOf s → getD plan (entersPart + t) 0 ≡ enters s t
+    pub endsAt : (t : ℕ) → t < tOf s → getD plan (endsPart + t) 0 ≡ enters s t * 2 ^ 32 + exits s t
     pub conflictsAt : (t : ℕ) → t < tOf s → getD plan (conflictsPart + t) 0 ≡ conflictsOf t
     pub yieldersAt : (t : ℕ) → t < tOf s → getD plan (yieldersPart + t) 0 ≡ yieldersOf t
-    pub losesAt : (t : ℕ) → t < tOf s → getD plan (losesPart + t) 0 ≡ sourcesIn (exits s t)
-    pub gainsAt : (t : ℕ) → t < tOf s → getD plan (gainsPart + t) 0 ≡ sourcesIn (enters s t)
+    pub nextAt : (t : ℕ) → t < tOf s → getD plan (nextPart + t) 0 ≡ nextOf t
     pub delaysAt : (t : ℕ) → t < 64 → getD plan (delaysPart + t) 0 ≡ timerDelay t
     pub hitsAt : (i : ℕ) → i < 2 ^ kOf s → getD plan (hitsPart + i) 0 ≡ hitsOf i
-    pub fromAt : FromPlanned plan
+    pub fromAt : (m : ℕ) → m < 32 → getD plan (fromPart + m) 0 ≡ sourcesIn (single m)
+    pub namedAt : (m : ℕ) → m < 32 → getD plan (namedPart + m) 0 ≡ namedIn (single m)
     pub timingAt : getD plan timersWord 0 ≡ timers
     pub judgedAt : getD plan mixedWord 0 ≡ mixed
+    pub earlyAt : getD plan earlyWord 0 ≡ early
+    pub eventsAt : getD plan eventsWord 0 ≡ namedAll
     pub startAt : getD plan startWord 0 ≡ complete s (single 0)

@@ -1,14 +1,19 @@
 // A transition's delay, and the test of its terms.
 ghost use mathlib.Core.Path.{_≡_};
-ghost use mathlib.Core.Bool.{false};
+ghost use mathlib.Core.Bool.{true, false, _&&_};
 ghost use mathlib.Core.List.{[], _∷_};
-ghost use Prim.Native.Nat.{_-_, _^_, _<_};
-ghost use Rattle.meaning.specs.Sheet.{tOf};
+ghost use Prim.Native.Nat.{ℕ, _-_, _^_, _<_};
+ghost use lib.Dec.{ltb};
+ghost use Rattle.sets.specs.Sets.{has, those};
+ghost use Rattle.meaning.specs.Sheet.{tOf, source};
 ghost use Rattle.meaning.specs.Check.{sheetRefusal};
 ghost use Rattle.meaning.specs.Reaction.{isDelay, delay, isTimer};
 ghost use Rattle.reaction.specs.Plan.{eventsOnly};
 ghost use Rattle.reaction.specs.Facts.{holdsBy, alternativeBy};
+use sets::modes;
+use sets::transitions;
 use sheet::words::offset;
+use sheet::words::source;
 use sheet::words::term_count;
 use sheet::words::term_kind;
 use sheet::words::term_value;
@@ -107,4 +112,32 @@ pub fn events_only(sheet: &[u32], t: usize) -> bool
         j += 1;
     }
     true
+}
+
+// Transition t is triggered by its terms: its source is in a mode set, and they hold. Not for a delay transition.
+fn is_judged(sheet: &[u32], modes: u32, t: usize, f: &[u64; 8]) -> bool
+    requires { ⌜ (sheetRefusal (now sheet) ≡ 0) × (t < tOf (now sheet)) × (isDelay (now sheet) t ≡ false) ⌝ }
+    ensures { λ r. ⌜ r ≡ (has modes (source (now (sheet .entry)) t)
+        && ltb 0 (alternativeBy (now (sheet .entry)) (now (f .entry)) t)) ⌝ }
+{
+    modes::has(modes, source(sheet, t)) && alternative(sheet, t, f) != 0
+}
+
+// Those of a set of transitions, none with a delay, that are triggered by their terms.
+pub fn judged(sheet: &[u32], modes: u32, set: u64, f: &[u64; 8]) -> u64
+    requires { ⌜ (sheetRefusal (now sheet) ≡ 0)
+        × ((t : ℕ) → has set t ≡ true → (t < tOf (now sheet)) × (isDelay (now sheet) t ≡ false)) ⌝ }
+    ensures { λ r. ⌜ r ≡ those 64 set (λ t. has modes (source (now (sheet .entry)) t)
+        && ltb 0 (alternativeBy (now (sheet .entry)) (now (f .entry)) t)) ⌝ }
+{
+    let mut r = 0u64;
+    let mut rest = set;
+    while rest != 0 {
+        let t = transitions::lowest(rest);
+        if is_judged(sheet, modes, t, f) {
+            r |= transitions::single(t);
+        }
+        rest = transitions::without_lowest(rest);
+    }
+    r
 }

@@ -1,31 +1,29 @@
 // A tick and its rounds.
 ghost use mathlib.Core.Path.{_≡_};
-ghost use mathlib.Core.Bool.{true, false};
+ghost use mathlib.Core.Bool.{true, false, _&&_};
 ghost use Prim.Native.Nat.{ℕ, suc, _^_, _<_};
-ghost use Rattle.sets.specs.Sets.{those, setOf, someIn, has};
+ghost use Rattle.sets.specs.Sets.{those, setOf, someIn, has, union};
 ghost use lib.Dec.{ltb};
 ghost use Rattle.rows.specs.Over.{fiveOf};
-ghost use Rattle.meaning.specs.Sheet.{kOf, tOf};
+ghost use Rattle.meaning.specs.Sheet.{kOf, tOf, source};
 ghost use Rattle.meaning.specs.Check.{sheetRefusal};
-ghost use Rattle.meaning.specs.Reaction.{isDelay, triggered, eligible};
-ghost use Rattle.meaning.specs.Tick.{begin, roundsFrom, tick, fiveWords};
-ghost use Rattle.reaction.specs.Plan.{Planned, sourcesIn, yieldersOf};
-ghost use Rattle.reaction.specs.Facts.{alternativeBy};
-ghost use Rattle.reaction.specs.Rounds.{setsOf, tickOf, Derived, MovesOf, addMove, afterMoves, tickBegun, Before};
+ghost use Rattle.meaning.specs.Reaction.{isDelay, alternative, triggered, eligible};
+ghost use Rattle.meaning.specs.Tick.{fiveWords};
+ghost use Rattle.reaction.specs.Plan.{Planned, yieldersOf};
+ghost use Rattle.reaction.specs.Rounds.{setsOf, tickOf, endedSo, firstSets, afterEnds, addMove, MovesOf, RoundOf, roundsBy, StartOf, Before, Begun};
 use super::plan::CONFLICTS;
-use super::plan::ENTERS;
-use super::plan::EXITS;
-use super::plan::GAINS;
+use super::plan::EARLY;
+use super::plan::ENDS;
 use super::plan::HITS;
-use super::plan::LOSES;
 use super::plan::MIXED;
+use super::plan::NEXT;
 use super::plan::Plan;
 use super::plan::START;
 use super::plan::YIELDERS;
 use super::plan::from_set;
 use super::plan::mode_set;
-use super::terms::alternative;
 use super::terms::facts;
+use super::terms::judged;
 use meaning::refusal::Refusal;
 use rows::Five;
 use sets::modes;
@@ -33,65 +31,59 @@ use sets::transitions;
 use sheet::words::transition_count;
 use sheet::words::wide;
 
-// The current modes; the entered, exited, active and taken sets of the tick; the transitions whose source is a current mode;
-// the due timers whose source was not entered.
+// What is carried from round to round: the current modes, those entered and exited in the tick, the transitions taken.
 pub struct Sets {
     pub modes: u32,
     pub entered: u32,
     pub exited: u32,
-    pub active: u32,
     pub taken: u64,
-    pub live: u64,
-    pub due: u64,
 }
 
-// What a tick gives: the sets after it (as a refused round began), and its rounds.
+// What a tick gives: the modes after it (as a refused round began), those entered and, from bit 32 on, those exited, the transitions
+// taken, and its rounds.
 pub struct Ticked {
     pub refusal: Refusal,
-    pub sets: Sets,
     pub rounds: u32,
+    pub modes: u32,
+    pub changed: u64,
+    pub taken: u64,
 }
 
-// What transitions do if they are taken together: the modes exited if active and entered, the transitions that lose or gain
-// an active source, and those in conflict with one of them.
+// What transitions do if they are taken together: the modes exited if active and, from bit 32 on, entered; the transitions in
+// conflict with one of them; those that can be triggered next.
 pub struct Moves {
-    pub exits: u64,
-    pub enters: u64,
-    pub loses: u64,
-    pub gains: u64,
+    pub ends: u64,
     pub clashes: u64,
+    pub next: u64,
 }
 
-// The transitions of a set whose terms hold.
-fn judged(sheet: &[u32], set: u64, f: &[u64; 8]) -> u64
+// The transitions that a round takes, and what they do.
+pub struct Round {
+    pub chosen: u64,
+    pub moves: Moves,
+}
+
+// What a tick begins with: the modes (at power-on the root, completed) and those of them entered; the transitions whose source is
+// one of them; those of these whose terms are to be judged.
+pub struct Start {
+    pub begun: u32,
+    pub entered: u32,
+    pub live: u64,
+    pub unsure: u64,
+}
+
+// The sure transitions, and those of the unsure ones whose source is a current mode and whose terms hold.
+fn triggered(sheet: &[u32], sure: u64, unsure: u64, z: Sets, begun: u32, input: u32) -> u64
     requires { ⌜ (sheetRefusal (now sheet) ≡ 0)
-        × ((t : ℕ) → has set t ≡ true → (t < tOf (now sheet)) × (isDelay (now sheet) t ≡ false)) ⌝ }
-    ensures { λ r. ⌜ r ≡ those 64 set (λ t. ltb 0 (alternativeBy (now (sheet .entry)) (now (f .entry)) t)) ⌝ }
+        × ((t : ℕ) → has unsure t ≡ true → (t < tOf (now sheet)) × (isDelay (now sheet) t ≡ false)) ⌝ }
+    ensures { λ r. ⌜ r ≡ union sure (those 64 unsure (λ t. has (z .modes) (source (now (sheet .entry)) t)
+        && ltb 0 (alternative (now (sheet .entry)) input (setsOf begun z) t))) ⌝ }
 {
-    let mut r = 0u64;
-    let mut rest = set;
-    while rest != 0 {
-        let t = transitions::lowest(rest);
-        if alternative(sheet, t, f) != 0 {
-            r |= transitions::single(t);
-        }
-        rest = transitions::without_lowest(rest);
-    }
-    r
-}
-
-// The triggered transitions.
-fn triggered(sheet: &[u32], plan: &Plan, z: Sets, input: u32) -> u64
-    requires { ⌜ Planned (now sheet) (now plan) × Derived (now sheet) z × (input < 2 ^ kOf (now sheet)) ⌝ }
-    ensures { λ r. ⌜ r ≡ triggered (now (sheet .entry)) (z .due) input (setsOf z) ⌝ }
-{
-    let sure = z.live & (z.due | plan[HITS + wide(input)]);
-    let mixed = z.live & plan[MIXED];
-    if mixed == 0 {
+    if unsure == 0 {
         return sure;
     }
-    let f = facts(input, z.entered, z.exited, z.active, z.taken);
-    sure | judged(sheet, mixed, &f)
+    let f = facts(input, z.entered, z.exited, begun | z.entered, z.taken);
+    sure | judged(sheet, z.modes, unsure, &f)
 }
 
 // The transitions that give way to one of a set.
@@ -123,11 +115,9 @@ fn with_move(plan: &Plan, m: Moves, t: usize) -> Moves
     ensures { λ r. ⌜ r ≡ addMove (now (plan .entry)) m t ⌝ }
 {
     Moves {
-        exits: m.exits | plan[EXITS + t],
-        enters: m.enters | plan[ENTERS + t],
-        loses: m.loses | plan[LOSES + t],
-        gains: m.gains | plan[GAINS + t],
+        ends: m.ends | plan[ENDS + t],
         clashes: m.clashes | plan[CONFLICTS + t],
+        next: m.next | plan[NEXT + t],
     }
 }
 
@@ -137,11 +127,9 @@ fn moves_of(sheet: &[u32], plan: &Plan, es: u64) -> Moves
     ensures { λ r. ⌜ MovesOf (now (sheet .entry)) es r ⌝ }
 {
     let mut r = Moves {
-        exits: 0,
-        enters: 0,
-        loses: 0,
-        gains: 0,
+        ends: 0,
         clashes: 0,
+        next: 0,
     };
     let mut rest = es;
     while rest != 0 {
@@ -151,115 +139,145 @@ fn moves_of(sheet: &[u32], plan: &Plan, es: u64) -> Moves
     r
 }
 
-// The sets after a round that takes es.
-fn after_round(z: Sets, m: Moves, es: u64) -> Sets
-    ensures { λ r. ⌜ r ≡ afterMoves z m es ⌝ }
+// The round of the triggered transitions ts: who gives way is worked out only where two of them are in conflict.
+fn round_of(sheet: &[u32], plan: &Plan, ts: u64) -> Round
+    requires { ⌜ Planned (now sheet) (now plan) × (ts < 2 ^ tOf (now sheet)) ⌝ }
+    ensures { λ r. ⌜ RoundOf (now (sheet .entry)) ts r ⌝ }
 {
-    let exits = transitions::low(m.exits);
-    let enters = transitions::low(m.enters);
+    let all = moves_of(sheet, plan, ts);
+    if !transitions::meets(all.clashes, ts) {
+        return Round {
+            chosen: ts,
+            moves: all,
+        };
+    }
+    let es = eligible(sheet, plan, ts);
+    let moves = moves_of(sheet, plan, es);
+    Round { chosen: es, moves }
+}
+
+// What is carried on after a round that takes es.
+fn after_round(z: Sets, ends: u64, es: u64) -> Sets
+    ensures { λ r. ⌜ r ≡ afterEnds z ends es ⌝ }
+{
+    let exits = transitions::low(ends);
+    let enters = transitions::high(ends);
     Sets {
         modes: modes::minus(z.modes, exits) | enters,
         entered: z.entered | enters,
         exited: z.exited | (z.modes & exits),
-        active: z.active | enters,
         taken: z.taken | es,
-        live: transitions::minus(z.live, m.loses) | m.gains,
-        due: transitions::minus(z.due, m.gains),
     }
 }
 
 // What a tick gives whose rounds ended so.
-fn ended(refusal: Refusal, sets: Sets, rounds: u32) -> Ticked
-    ensures { λ r. ⌜ r ≡ record { refusal = refusal; sets = sets; rounds = rounds } ⌝ }
+fn ended(refusal: Refusal, z: Sets, rounds: u32) -> Ticked
+    ensures { λ r. ⌜ r ≡ endedSo refusal z rounds ⌝ }
 {
     Ticked {
         refusal,
-        sets,
         rounds,
+        modes: z.modes,
+        changed: transitions::join(z.entered, z.exited),
+        taken: z.taken,
     }
 }
 
-// All rounds of a tick: each takes a transition not taken before, so T and one look are enough.
-fn rounds(sheet: &[u32], plan: &Plan, start: Sets, input: u32) -> Ticked
-    requires { ⌜ Planned (now sheet) (now plan) × Derived (now sheet) start × (input < 2 ^ kOf (now sheet)) ⌝ }
-    ensures { λ r. ⌜ (tickOf r
-        ≡ roundsFrom (now (sheet .entry)) (suc (tOf (now (sheet .entry)))) (start .due) input (setsOf start) 0)
-        × (r .sets .live ≡ sourcesIn (now (sheet .entry)) (r .sets .modes)) ⌝ }
+// All rounds of a tick from its first triggered transitions on: each takes a transition not taken before, so T and one look are
+// enough. A round exits the sources of all that were triggered, so what is triggered next gained its source or a term.
+pub fn rounds(
+    sheet: &[u32],
+    plan: &Plan,
+    begun: u32,
+    entered: u32,
+    first: u64,
+    input: u32,
+) -> Ticked
+    requires { ⌜ Planned (now sheet) (now plan) × Begun (now sheet) begun entered first input × (input < 2 ^ kOf (now sheet)) ⌝ }
+    ensures { λ r. ⌜ tickOf begun r
+        ≡ roundsBy (now (sheet .entry)) (suc (tOf (now (sheet .entry)))) input (setsOf begun (firstSets begun entered)) first 0 ⌝ }
 {
     let most = transition_count(sheet);
-    let mut z = start;
+    let hits = plan[HITS + wide(input)];
+    let mixed = plan[MIXED];
+    let mut z = Sets {
+        modes: begun,
+        entered,
+        exited: 0,
+        taken: 0,
+    };
+    let mut ts = first;
     let mut r = 0u32;
     while wide(r) <= most {
-        let es = eligible(sheet, plan, triggered(sheet, plan, z, input));
-        if es == 0 {
+        if ts == 0 {
             return ended(Refusal::Nothing, z, r);
         }
-        let m = moves_of(sheet, plan, es);
+        let round = round_of(sheet, plan, ts);
+        let es = round.chosen;
+        let m = round.moves;
         if transitions::meets(m.clashes, es) {
             return ended(Refusal::Ambiguous, z, r);
         }
         if transitions::meets(es, z.taken) {
             return ended(Refusal::Restless, z, r);
         }
-        z = after_round(z, m, es);
+        z = after_round(z, m.ends, es);
+        ts = triggered(sheet, m.next & hits, m.next & mixed, z, begun, input);
         r += 1;
     }
     ended(Refusal::Nothing, z, r)
 }
 
-// The sets before the first round, from a mode set other than power-on's, its transitions and its due timers.
-fn begin(modes: u32, live: u64, due: u64) -> Sets
-    ensures { λ r. ⌜ r ≡ tickBegun modes live due ⌝ }
-{
-    Sets {
-        modes,
-        entered: 0,
-        exited: 0,
-        active: modes,
-        taken: 0,
-        live,
-        due,
-    }
-}
-
-// The sets before the first round at power-on: the root is completed.
-fn power_on(sheet: &[u32], plan: &Plan) -> Sets
+// What a tick from a mode set (0: power-on) begins with.
+pub fn start_of(sheet: &[u32], plan: &Plan, set: u32) -> Start
     requires { ⌜ Planned (now sheet) (now plan) ⌝ }
-    ensures { λ r. ⌜ (setsOf r ≡ begin (now (sheet .entry)) 0) × Derived (now (sheet .entry)) r × (r .due ≡ 0) ⌝ }
+    ensures { λ r. ⌜ StartOf (now (sheet .entry)) set r ⌝ }
 {
-    let start = mode_set(plan, START);
-    Sets {
-        modes: start,
-        entered: start,
+    if set == 0 {
+        let begun = mode_set(plan, START);
+        let live = from_set(sheet, plan, begun);
+        return Start {
+            begun,
+            entered: begun,
+            live,
+            unsure: live & plan[MIXED],
+        };
+    }
+    let live = from_set(sheet, plan, set);
+    Start {
+        begun: set,
+        entered: 0,
+        live,
+        unsure: live & plan[EARLY],
+    }
+}
+
+// The transitions triggered where a tick begins.
+pub fn first_triggered(sheet: &[u32], plan: &Plan, b: Start, due: u64, input: u32) -> u64
+    requires { ⌜ Planned (now sheet) (now plan) × Before (now sheet) b due × (input < 2 ^ kOf (now sheet)) ⌝ }
+    ensures { λ r. ⌜ r
+        ≡ triggered (now (sheet .entry)) due input (setsOf (b .begun) (firstSets (b .begun) (b .entered))) ⌝ }
+{
+    let sure = b.live & (due | plan[HITS + wide(input)]);
+    let z = Sets {
+        modes: b.begun,
+        entered: b.entered,
         exited: 0,
-        active: start,
         taken: 0,
-        live: from_set(sheet, plan, start),
-        due: 0,
-    }
+    };
+    triggered(sheet, sure, b.unsure, z, b.begun, input)
 }
 
-// The tick from a mode set (0: power-on) with the transitions whose source is in it and its due timers.
-pub fn tick(sheet: &[u32], plan: &Plan, modes: u32, live: u64, due: u64, input: u32) -> Ticked
-    requires { ⌜ Planned (now sheet) (now plan) × Before (now sheet) modes live due × (input < 2 ^ kOf (now sheet)) ⌝ }
-    ensures { λ r. ⌜ (tickOf r ≡ tick (now (sheet .entry)) modes due input)
-        × (r .sets .live ≡ sourcesIn (now (sheet .entry)) (r .sets .modes)) ⌝ }
+// The five words of a tick that began in these modes.
+pub fn five_words(begun: u32, o: Ticked) -> Five
+    ensures { λ r. ⌜ fiveOf r ≡ fiveWords (tickOf begun o .sets) ⌝ }
 {
-    if modes == 0 {
-        return rounds(sheet, plan, power_on(sheet, plan), input);
-    }
-    rounds(sheet, plan, begin(modes, live, due), input)
-}
-
-// The five words of a tick.
-pub fn five_words(z: Sets) -> Five
-    ensures { λ r. ⌜ fiveOf r ≡ fiveWords (setsOf z) ⌝ }
-{
+    let entered = transitions::low(o.changed);
     Five {
-        entered: z.entered,
-        exited: z.exited,
-        active: z.active,
-        low: transitions::low(z.taken),
-        high: transitions::high(z.taken),
+        entered,
+        exited: transitions::high(o.changed),
+        active: begun | entered,
+        low: transitions::low(o.taken),
+        high: transitions::high(o.taken),
     }
 }

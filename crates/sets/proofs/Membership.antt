@@ -1,6 +1,6 @@
 -- Membership of each set operation, and equality by membership. Each law is over the width w. Assumes nothing.
 use mathlib.Core.Path.{_≡_, refl, sym, ap, ap₂, _∙_, subst}
-use mathlib.Core.Bool.{Bool, true, false, not, _&&_, _||_}
+use mathlib.Core.Bool.{Bool, true, false, not, _&&_, _||_, or-assoc}
 use Prim.Native.Nat.{ℕ, zero, suc, _+_, _-_, _*_, _/_, _%_, _^_, _≤_, _<_, suc-le-suc, min, max}
 use native.Mathlib.Nat.{lt-of-lt-of-le, mod-lt, mod-le, lt-of-not-le, zero-add, zero-mul, mod-eq-of-lt, one-mul, lt-of-le-of-lt, eq-or-lt-of-le, zero-lt-suc, not-suc-le-zero, le-of-suc-le-suc, div-div-eq-div-mul, div-one, pow-succ', pow-suc, zero-div}
 use native.Mathlib.Numerals.{add-one}
@@ -97,6 +97,9 @@ table f g p q r s x y hx hy =
 
 pub has-union : (a b i : ℕ) → has (union a b) i ≡ (has a i || has b i)
 has-union = has-op union max _||_ or-step (λ x y hx hy. omega arith) (table max _||_ refl refl refl refl)
+
+pub union-assoc : (a b c : ℕ) → union (union a b) c ≡ union a (union b c)
+union-assoc a b c = same-members (λ i. simp (has-union, or-assoc))
 
 pub has-meet : (a b i : ℕ) → has (meet a b) i ≡ (has a i && has b i)
 has-meet = has-op meet min _&&_ and-step (λ x y hx hy. omega arith) (table min _&&_ refl refl refl refl)

@@ -7,7 +7,7 @@ use Rattle.reaction.proofs.plan.running.Statement.{statement}
 use Rattle.reaction.proofs.plan.running.Tie as tie
 
 from-set-requires : tie.Need-from-set-requires
-from-set-requires c κs = c .before .pre .fromAt
+from-set-requires c κs = search needs
 
 element-copy-out-result : tie.Need-element-copy-out-result
 element-copy-out-result c = search needs
