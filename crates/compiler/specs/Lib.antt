@@ -1,3 +1,3 @@
-pub mod Steps
 pub mod Alike
+pub mod Steps
 pub mod Outcome

@@ -13,7 +13,7 @@ use lib.Bits.{or-disjoint}
 use lib.Pow.{pow-pos}
 use lib.ListN.{length}
 use Rattle.sets.specs.Sets.{has, union, meet, minus, single, setOf, those, membersFrom, members, prepend, size, some, every, someIn, everyIn}
-use Rattle.sets.proofs.Tests.{is-true, is-false, of-true, of-false, and-l, and-r, and-i, or-e, or-l, or-r, implied, implies}
+use Rattle.sets.proofs.Tests.{is-true, is-false, of-false, and-l, and-r, and-i, or-e, or-l, or-r, implied, implies}
 use Rattle.sets.proofs.Membership.{has-none, has-above, same-members, has-union, has-meet, has-minus, meet-le, has-join-low, has-join-high, has-low, has-single, has-setOf, setOf-lt, has-those, those-lt}
 
 -- a member of a set of w bits is below w
