@@ -1,5 +1,5 @@
 #!/usr/bin/env bash
-# timing.sh [SECONDS] [large]: proves and builds the crate `native` as an archive, and times compile, table run and sheet run beside
+# timing.sh [SECONDS] [large | sizes]: proves and builds the crate `native` as an archive, and times compile, table run and sheet run beside
 # the Rust version of shared/peer; with BEFORE_DIR set, also beside our own of an earlier commit (tools/before.sh makes that); with
 # MODEL_DIR set, the sheet run also beside the unproved model (tools/model.sh makes that).
 # Each function of all archives is placed at a multiple of 64 bytes: where a loop falls in a cache line is worth up to a sixth.

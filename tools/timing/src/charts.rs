@@ -92,3 +92,15 @@ pub fn charts(large: bool) -> Vec<(&'static str, Vec<u32>)> {
     }
     charts
 }
+
+// Rings that differ in how many sets compile lists: what a cell costs should not hang on it.
+pub fn sizes() -> Vec<(String, Vec<u32>)> {
+    let timers: [&[u32]; 11] = [
+        &[5, 2], &[10, 10], &[14, 14], &[5, 2, 2], &[7, 7, 7], &[9, 9, 9], &[2, 2, 2, 2, 2, 2], &[3, 3, 3, 3, 2, 2],
+        &[4, 4, 4, 4, 2, 2], &[4, 4, 4, 4, 4, 3], &[6, 5, 5, 3, 3, 3],
+    ];
+    let events: [&[u32]; 4] = [&[2, 2, 2, 2, 2, 2], &[4, 4, 2, 2, 2, 2], &[4, 4, 4, 4, 2, 2], &[4, 4, 4, 4, 4, 2]];
+    let name = |kind: &str, of: &[u32]| format!("{} {} rings, {}", of.len(), kind, of.iter().product::<u32>());
+    let timer_rings = timers.iter().map(|of| (name("timer", of), g::timer_rings(of, 0).words()));
+    timer_rings.chain(events.iter().map(|of| (name("event", of), g::rings(of).words()))).collect()
+}

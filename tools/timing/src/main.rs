@@ -1,4 +1,4 @@
-// timing [SECONDS] [large]: compile, table run, sheet run, what a call works out before its first tick, masks and milliseconds, ours beside the hand-optimised Rust version, in turns
+// timing [SECONDS] [large | sizes]: compile, table run, sheet run, what a call works out before its first tick, masks and milliseconds, ours beside the hand-optimised Rust version, in turns
 // on the same sheets, inputs and buffers (warm, not cleared). Every word of table, work list and output is compared first. With
 // BEFORE_DIR set at build, our operations as they were at an earlier commit are timed in the same turns; with MODEL_DIR, the
 // sheet run of the unproved model of patterns/code.
@@ -47,7 +47,7 @@ fn by_turns(budget: f64, fs: &mut [&mut dyn FnMut()]) -> Vec<f64> {
 }
 
 struct Chart {
-    name: &'static str,
+    name: String,
     sheet: Vec<u32>,
     table: Vec<u32>,
     inputs: Vec<u32>,
@@ -121,7 +121,7 @@ fn print_row<F>(chart: &str, unit: &str, versions: &[Version<F>], amount: f64, t
     println!();
 }
 
-fn compiled(name: &'static str, sheet: Vec<u32>, budget: f64) -> Chart {
+fn compiled(name: String, sheet: Vec<u32>, budget: f64) -> Chart {
     let versions = compiles();
     let length = rust_compile(&sheet, &mut vec![0u32; 80 << 20], &mut vec![0u32; 4095]).2;
     let mut lent: Vec<_> = versions.iter().map(|_| (vec![0u32; length], vec![0u32; 4095])).collect();
@@ -133,7 +133,7 @@ fn compiled(name: &'static str, sheet: Vec<u32>, budget: f64) -> Chart {
     drop(turns);
     let f = answers[0].1;
     let cells = (length - 4 - sheet[2] as usize - 5 * (f + 1)) as f64 / 6e6;
-    print_row(name, "compile, M cells/s", &versions, cells, &t);
+    print_row(&name, "compile, M cells/s", &versions, cells, &t);
     let mut r = Rng::new(9);
     let inputs = (0..1 << 18).map(|_| r.below(1 << sheet[1])).collect();
     Chart { name, table: lent.swap_remove(0).0, sheet, inputs }
@@ -157,17 +157,17 @@ fn time_table_runs(c: &Chart, budget: f64) {
     let checks = run_times(&versions, &c.table, &[], budget / 2.0);
     let whole = run_times(&versions, &c.table, &c.inputs, budget);
     let ticks: Vec<_> = whole.iter().zip(&checks).map(|(t, e)| t - e).collect();
-    print_row(c.name, "table run, M ticks/s", &versions, c.inputs.len() as f64 / 1e6, &ticks);
-    print_row(c.name, "layout check, M words/s", &versions, c.table.len() as f64 / 1e6, &checks);
+    print_row(&c.name, "table run, M ticks/s", &versions, c.inputs.len() as f64 / 1e6, &ticks);
+    print_row(&c.name, "layout check, M words/s", &versions, c.table.len() as f64 / 1e6, &checks);
 }
 
 // Ticks per second, and runs without a tick: what a call works out before its first tick, the sheet's check and its plan.
 fn time_sheet_runs(c: &Chart, budget: f64) {
     let versions = sheet_runs();
     let t = run_times(&versions, &c.sheet, &c.inputs, budget);
-    print_row(c.name, "sheet run, M ticks/s", &versions, c.inputs.len() as f64 / 1e6, &t);
+    print_row(&c.name, "sheet run, M ticks/s", &versions, c.inputs.len() as f64 / 1e6, &t);
     let before = empty_run_times(&versions, &c.sheet, budget);
-    print_row(c.name, "check and plan, M/s", &versions, CALLS as f64 / 1e6, &before);
+    print_row(&c.name, "check and plan, M/s", &versions, CALLS as f64 / 1e6, &before);
 }
 
 // The best time of many runs without a tick, by turns.
@@ -179,12 +179,18 @@ fn empty_run_times(versions: &[Version<Run>], sheet: &[u32], budget: f64) -> Vec
 
 fn main() {
     let budget: f64 = std::env::args().nth(1).and_then(|x| x.parse().ok()).unwrap_or(1.0);
-    let large = std::env::args().nth(2).is_some();
-    for (name, sheet) in charts::charts(large) {
-        let c = compiled(name, sheet, budget);
+    let what = std::env::args().nth(2).unwrap_or_default();
+    if what == "sizes" {
+        for (name, sheet) in charts::sizes() {
+            compiled(name, sheet, budget);
+        }
+        return;
+    }
+    for (name, sheet) in charts::charts(what == "large") {
+        let c = compiled(name.to_string(), sheet, budget);
         time_table_runs(&c, budget);
         time_sheet_runs(&c, budget);
-        within::time_masks(c.name, &c.sheet, budget);
+        within::time_masks(&c.name, &c.sheet, budget);
     }
     milliseconds::time_conversions(budget);
 }
