@@ -1,22 +1,22 @@
 -- A tick depends on its input only through the events that transitions with an active source name; which modes are active in a tick.
 -- Assumes nothing.
 use mathlib.Core.Path.{_≡_, refl, sym, ap, ap₂, _∙_, subst}
-use mathlib.Core.Logic.{⊎-elim}
+use mathlib.Core.Logic.{_⊎_, inl, inr, ⊎-elim}
 use mathlib.Core.Bool.{Bool, true, false, not, _&&_, _||_, cond}
 use mathlib.Core.List.{List, [], _∷_, map}
 use Prim.Native.Nat.{ℕ, zero, suc, _+_, _<_}
 use native.Mathlib.Omega.{arith}
-use lib.Dec.{T, eqb, ltb, eqb-refl}
+use lib.Dec.{T, eqb, ltb, eqb-refl, eqb→eq, ltb→lt}
 use lib.ListN.{drop, getD}
 use lib.Bits.{or-zero-r, or-self}
 use borrow.Author.Tests.{eqb-true, eqb-false}
 use Rattle.sets.specs.Sets.{has, union, single, someIn}
-use Rattle.sets.proofs.Tests.{is-false, of-false, and-l, and-i, or-e, or-l, or-r, bool-ext}
-use Rattle.sets.proofs.Facts.{union-e, union-l, union-r, setOf-e, setOf-i, some-i, someIn-e, someIn-i}
+use Rattle.sets.proofs.Tests.{is-false, of-false, and-l, and-r, and-i, or-e, or-l, or-r, bool-ext}
+use Rattle.sets.proofs.Facts.{union-e, union-l, union-r, setOf-e, setOf-i, some-e, some-i, someIn-e, someIn-i}
 use Rattle.sets.proofs.Membership.{has-none, has-union, same-members, setOf-same, union-assoc}
 use Rattle.meaning.specs.Lists.{allOf, firstOf}
-use Rattle.meaning.specs.Sheet.{nOf, tOf, source, termCount, termKind, termValue}
-use Rattle.meaning.specs.Check.{sheetRefusal}
+use Rattle.meaning.specs.Sheet.{nOf, kOf, tOf, source, termCount, termKind, termValue}
+use Rattle.meaning.specs.Check.{kindOk, termOk, sheetRefusal}
 use Rattle.meaning.specs.Hierarchy.{complete, enters}
 use Rattle.meaning.specs.Reaction.{TickSets, isDelay, delay, holds, inFirst, alternativesFrom, alternatives, allHold, alternative, isDue, trigger, triggered, eligible, ambiguous, restless, exiting, entering, afterRound}
 use Rattle.meaning.specs.Tick.{Tick, begin, chosen, roundsFrom, tick}
@@ -104,6 +104,23 @@ module _ (s : List ℕ) (d i j : ℕ) (z : TickSets) where
   chosen-same h =
       ap (eligible s) (setOf-same (tOf s) (λ t. ltb 0 (trigger s d i z t)) (λ t. ltb 0 (trigger s d j z t))
       (λ t l. ap (ltb 0) (trigger-same t (λ on e. h t e l on))))
+
+-- an event that is named is one of the sheet's
+module _ (s : List ℕ) where
+  event-lt : (t j c : ℕ) → T (eqb c 1) ⊎ T (eqb c 2) → T (kindOk s t j c) → termValue s t j < kOf s
+  unfolding kindOk
+  event-lt t j c (inl h) k = ltb→lt (termValue s t j) (kOf s) (subst (λ (x : ℕ). T (kindOk s t j x)) (eqb→eq c 1 h) k)
+  event-lt t j c (inr h) k = ltb→lt (termValue s t j) (kOf s) (subst (λ (x : ℕ). T (kindOk s t j x)) (eqb→eq c 2 h) k)
+
+  pub names-event : Sound s → (t e : ℕ) → t < tOf s → T (names s t e) → e < kOf s
+  unfolding names termOk
+  names-event sd t e l h =
+      let ofEvent : ℕ → Bool = λ j. eqb (termKind s t j) 1 || eqb (termKind s t j) 2 in
+      let p = some-e (termCount s t) (λ j. ofEvent j && eqb (termValue s t j) e) h in
+      let j = p .0 in
+      let is = eqb→eq (termValue s t j) e (and-r (ofEvent j) (eqb (termValue s t j) e) (p .2)) in
+      let k = and-l (ofEvent j) (eqb (termValue s t j) e) (p .2) in
+      subst (λ (v : ℕ). v < kOf s) is (event-lt t j (termKind s t j) (or-e (eqb (termKind s t j) 1) (eqb (termKind s t j) 2) k) (sd .terms t l j (p .1)))
 
 -- ---- the modes are active, and what is active stays so
 

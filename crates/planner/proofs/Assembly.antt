@@ -13,10 +13,11 @@ use Rattle.rows.specs.Over.{over}
 use Rattle.meaning.specs.Lists.{rowFrom}
 use Rattle.meaning.specs.Sheet.{kOf, tOf}
 use Rattle.meaning.specs.Check.{sheetRefusal}
-use Rattle.meaning.specs.Hierarchy.{complete, exits, enters}
+use Rattle.meaning.specs.Hierarchy.{complete}
 use Rattle.meaning.proofs.SheetLaws.{sound, t-le}
-use Rattle.reaction.specs.Plan.{exitsPart, entersPart, conflictsPart, yieldersPart, losesPart, gainsPart, delaysPart, hitsPart, fromPart, timersWord, mixedWord, startWord, planSize, Planned, conflictsOf, yieldersOf, timers, timerDelay, mixed, hitsOf}
-use Rattle.planner.specs.Parts.{WordsAt, fromOf, losesOf, gainsOf}
+use Rattle.reaction.specs.Plan.{endsPart, conflictsPart, yieldersPart, nextPart, delaysPart, hitsPart, fromPart, namedPart, timersWord, mixedWord, earlyWord, eventsWord, startWord, planSize, Planned, conflictsOf, yieldersOf, nextOf, timers, timerDelay, mixed, early, namedAll, hitsOf}
+use Rattle.planner.specs.Parts.{WordsAt, fromOf, endsOf}
+use Rattle.planner.specs.Looks.{takenOf, namedOf}
 use Rattle.planner.proofs.PartLaws.{part-length, part-in, part-beside, part-word}
 use Rattle.planner.proofs.HitLaws.{inputs-le}
 
@@ -154,11 +155,12 @@ module _ (s : List ℕ) where
   abbrev pub rowPiece : ℕ → (ℕ → ℕ) → Piece
   rowPiece i f = record { at = i; room = 64; width = tOf s; word = f }
 
-  abbrev pub losesPiece : Piece
-  losesPiece = rowPiece losesPart (losesOf s)
+  -- NEXT at first, and NAMED
+  abbrev pub takenPiece : Piece
+  takenPiece = record { at = nextPart; room = 64; width = 64; word = takenOf s }
 
-  abbrev pub gainsPiece : Piece
-  gainsPiece = rowPiece gainsPart (gainsOf s)
+  abbrev pub namedPiece : Piece
+  namedPiece = record { at = namedPart; room = 32; width = 32; word = namedOf s }
 
   abbrev pub delaysPiece : Piece
   delaysPiece = record { at = delaysPart; room = 64; width = 64; word = timerDelay s }
@@ -166,37 +168,39 @@ module _ (s : List ℕ) where
   abbrev pub hitsPiece : Piece
   hitsPiece = record { at = hitsPart; room = 64; width = 2 ^ kOf s; word = hitsOf s }
 
-  -- FROM, EXITS and ENTERS; LOSES and GAINS; CONFLICTS and YIELDERS; DELAYS and HITS; TIMERS, MIXED and START
+  -- FROM and ENDS; NAMED and NEXT; CONFLICTS and YIELDERS; DELAYS and HITS; TIMERS, MIXED, EARLY, EVENTS and START
   abbrev pub ends : List Piece
-  ends = rowPiece entersPart (enters s) ∷ rowPiece exitsPart (exits s) ∷ fromPiece ∷ []
+  ends = rowPiece endsPart (endsOf s) ∷ fromPiece ∷ []
 
-  abbrev pub changes : List Piece
-  changes = gainsPiece ∷ losesPiece ∷ ends
+  abbrev pub nexts : List Piece
+  nexts = rowPiece nextPart (nextOf s) ∷ namedPiece ∷ takenPiece ∷ ends
 
   abbrev pub conflicts : List Piece
-  conflicts = rowPiece yieldersPart (yieldersOf s) ∷ rowPiece conflictsPart (conflictsOf s) ∷ changes
+  conflicts = rowPiece yieldersPart (yieldersOf s) ∷ rowPiece conflictsPart (conflictsOf s) ∷ nexts
 
   abbrev pub classes : List Piece
   classes = hitsPiece ∷ delaysPiece ∷ conflicts
 
   abbrev pub whole : List Piece
-  whole = wordPiece startWord (complete s (single 0)) ∷ wordPiece mixedWord (mixed s) ∷ wordPiece timersWord (timers s) ∷ classes
+  whole =
+      wordPiece startWord (complete s (single 0)) ∷ wordPiece eventsWord (namedAll s) ∷ wordPiece earlyWord (early s) ∷ wordPiece mixedWord (mixed s) ∷ wordPiece timersWord (timers s) ∷ classes
 
   pub planned-of : {m : List ℕ} → sheetRefusal s ≡ 0 → Laid whole m → Planned s m
   planned-of h d =
       record {
         passes = h;
-        exitsAt = laid-has 10 d tt;
-        entersAt = laid-has 9 d tt;
-        conflictsAt = laid-has 6 d tt;
-        yieldersAt = laid-has 5 d tt;
-        losesAt = laid-has 8 d tt;
-        gainsAt = laid-has 7 d tt;
-        delaysAt = laid-has 4 d tt;
-        hitsAt = laid-has 3 d tt;
-        fromAt = laid-has 11 d tt;
-        timingAt = laid-has 2 d tt 0 (omega arith);
-        judgedAt = laid-has 1 d tt 0 (omega arith);
+        endsAt = laid-has 12 d tt;
+        conflictsAt = laid-has 8 d tt;
+        yieldersAt = laid-has 7 d tt;
+        nextAt = laid-has 9 d tt;
+        delaysAt = laid-has 6 d tt;
+        hitsAt = laid-has 5 d tt;
+        fromAt = laid-has 13 d tt;
+        namedAt = laid-has 10 d tt;
+        timingAt = laid-has 4 d tt 0 (omega arith);
+        judgedAt = laid-has 3 d tt 0 (omega arith);
+        earlyAt = laid-has 2 d tt 0 (omega arith);
+        eventsAt = laid-has 1 d tt 0 (omega arith);
         startAt = laid-has 0 d tt 0 (omega arith);
       }
 

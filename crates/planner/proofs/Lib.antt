@@ -1,5 +1,8 @@
 pub mod PartLaws
 pub mod SourceLaws
+pub mod LookLaws
+pub mod NextLaws
+pub mod WokenLaws
 pub mod ConflictLaws
 pub mod ClassLaws
 pub mod HitLaws

@@ -158,6 +158,33 @@ pub parts-done : (l : List ℕ) (at bt : ℕ) (f g : ℕ → ℕ) {m : List ℕ}
     → m ≡ over (over l at (rowFrom 0 w f)) bt (rowFrom 0 w g)
 parts-done l at bt f g t e k = rw k at e
 
+-- a list with the words of two parts, and with the others as they were
+pub parts-are : (l m : List ℕ) (at w bt v : ℕ) (f g : ℕ → ℕ) → at + w ≤ bt → bt + v ≤ length l → length m ≡ length l → WordsAt m at w f → WordsAt m bt v g
+    → ((i : ℕ) → (at ≤ i → i < at + w → ⊥) → (bt ≤ i → i < bt + v → ⊥) → getD m i 0 ≡ getD l i 0)
+    → m ≡ over (over l at (rowFrom 0 w f)) bt (rowFrom 0 v g)
+parts-are l m at w bt v f g a b e p q o =
+    part-is n bt v g (omega (arith, long)) m (e ∙ sym long) q (λ i k. word i k (decLe at i) (decLt i (at + w)))
+  where
+    n : List ℕ
+    n = over l at (rowFrom 0 w f)
+
+    room : at + w ≤ length l
+    room = omega arith
+
+    long : length n ≡ length l
+    long = part-length l at w f room
+
+    beside : (i : ℕ) → (bt ≤ i → i < bt + v → ⊥) → (at ≤ i → i < at + w → ⊥) → getD m i 0 ≡ getD n i 0
+    beside i k c = o i c k ∙ sym (part-out l at w f room i c)
+
+    word : (i : ℕ) → (bt ≤ i → i < bt + v → ⊥) → Dec (at ≤ i) → Dec (i < at + w) → getD m i 0 ≡ getD n i 0
+    word i k (no x) y = beside i k (λ c d. x c)
+    word i k (yes x) (no y) = beside i k (λ c d. y d)
+    word i k (yes x) (yes y) =
+        let j : at + (i - at) ≡ i = omega arith in
+        let c : i - at < w = omega arith in
+        rw j at (p (i - at) c ∙ sym (part-in l at w f room (i - at) c))
+
 -- a loop that changes a part word by word: its start, and one turn
 pub part-same : (l : List ℕ) (at w : ℕ) (f : ℕ → ℕ) → at + w ≤ length l → WordsAt l at w f → l ≡ over l at (rowFrom 0 w f)
 part-same l at w f h k = part-is l at w f h l refl k (λ i a. refl)

@@ -2,7 +2,7 @@
 use mathlib.Core.Path.{_≡_}
 use mathlib.Core.Bool.{Bool, _||_, cond}
 use mathlib.Core.List.{List}
-use Prim.Native.Nat.{ℕ, _+_, _<_}
+use Prim.Native.Nat.{ℕ, _+_, _*_, _^_, _<_}
 use lib.Dec.{eqb, ltb}
 use lib.ListN.{getD}
 use Rattle.sets.specs.Sets.{single, setOf}
@@ -20,12 +20,9 @@ module _ (s : List ℕ) where
   abbrev pub fromOf : ℕ → ℕ
   fromOf m = sourcesIn s (single m)
 
-  -- word t of LOSES and of GAINS: the transitions whose source t exits, and enters
-  abbrev pub losesOf : ℕ → ℕ
-  losesOf t = sourcesIn s (exits s t)
-
-  abbrev pub gainsOf : ℕ → ℕ
-  gainsOf t = sourcesIn s (enters s t)
+  -- word t of ENDS: what t exits and, from bit 32 on, what it enters
+  abbrev pub endsOf : ℕ → ℕ
+  endsOf t = enters s t * 2 ^ 32 + exits s t
 
   -- an input set can trigger t by itself: t has delay 0, or event terms alone
   unfoldable pub isSure : ℕ → Bool

@@ -7,7 +7,7 @@ ghost use Rattle.rows.specs.Over.{over};
 ghost use Rattle.meaning.specs.Lists.{rowFrom};
 ghost use Rattle.meaning.specs.Sheet.{tOf};
 ghost use Rattle.meaning.specs.Check.{sheetRefusal};
-ghost use Rattle.reaction.specs.Plan.{delaysPart, planSize, timers, timerDelay, mixed};
+ghost use Rattle.reaction.specs.Plan.{delaysPart, planSize, timers, timerDelay, mixed, early};
 ghost use Rattle.planner.specs.Parts.{WordsAt, isSure, sure};
 use reaction::plan::DELAYS;
 use reaction::plan::Plan;
@@ -15,6 +15,7 @@ use reaction::terms::delay;
 use reaction::terms::events_only;
 use reaction::terms::is_delay;
 use reaction::terms::is_timer;
+use reaction::terms::judged;
 use sets::transitions;
 use sheet::words::transition_count;
 
@@ -68,6 +69,16 @@ pub fn mixed(sheet: &[u32], timing: u64, certain: u64) -> u64
     ensures { λ r. ⌜ r ≡ mixed (now (sheet .entry)) ⌝ }
 {
     transitions::minus(below(transition_count(sheet)), timing | certain)
+}
+
+// Those of them whose terms can hold before anything is entered, exited or taken: on every event present and absent, in all modes.
+pub fn early(sheet: &[u32], set: u64) -> u64
+    requires { ⌜ (sheetRefusal (now sheet) ≡ 0) × (set ≡ mixed (now sheet)) ⌝ }
+    ensures { λ r. ⌜ r ≡ early (now (sheet .entry)) ⌝ }
+{
+    let all = 0xffff_ffff_ffff_ffffu64;
+    let f = [0u64, all, all, all, 0, 0, 0, 0];
+    judged(sheet, 0xffff_ffff, set, &f)
 }
 
 // DELAYS: each timer's delay is stored.

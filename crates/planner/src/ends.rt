@@ -5,18 +5,17 @@ ghost use Rattle.rows.specs.Over.{over};
 ghost use Rattle.meaning.specs.Lists.{rowFrom};
 ghost use Rattle.meaning.specs.Sheet.{tOf};
 ghost use Rattle.meaning.specs.Check.{sheetRefusal};
-ghost use Rattle.meaning.specs.Hierarchy.{exits, enters};
 ghost use Rattle.sheet.specs.Masks.{Children, Containers, Withins};
-ghost use Rattle.reaction.specs.Plan.{exitsPart, entersPart, planSize};
-ghost use Rattle.planner.specs.Parts.{Meetings};
+ghost use Rattle.reaction.specs.Plan.{endsPart, planSize};
+ghost use Rattle.planner.specs.Parts.{Meetings, endsOf};
 use hierarchy::transition::entered_by;
 use hierarchy::transition::exited_by;
-use reaction::plan::ENTERS;
-use reaction::plan::EXITS;
+use reaction::plan::ENDS;
 use reaction::plan::Plan;
+use sets::transitions;
 use sheet::words::transition_count;
 
-// EXITS and ENTERS.
+// ENDS.
 pub fn put_ends(
     sheet: &[u32],
     children: &[u32; 32],
@@ -32,16 +31,15 @@ pub fn put_ends(
         × Containers (now sheet) (now containers)
         × Meetings (now sheet) (now meets) ⌝ }
     ensures { λ _. ⌜ now (plan .exit)
-        ≡ over
-        (over (now (plan .entry)) exitsPart (rowFrom 0 (tOf (now (sheet .entry))) (exits (now (sheet .entry)))))
-        entersPart (rowFrom 0 (tOf (now (sheet .entry))) (enters (now (sheet .entry)))) ⌝ }
+        ≡ over (now (plan .entry)) endsPart (rowFrom 0 (tOf (now (sheet .entry))) (endsOf (now (sheet .entry)))) ⌝ }
 {
     let count = transition_count(sheet);
     let mut t = 0;
     while t < count {
         let p = meets[t];
-        plan[EXITS + t] = exited_by(sheet, within, containers, p, t) as u64;
-        plan[ENTERS + t] = entered_by(sheet, children, within, containers, p, t) as u64;
+        let out = exited_by(sheet, within, containers, p, t);
+        let into = entered_by(sheet, children, within, containers, p, t);
+        plan[ENDS + t] = transitions::join(out, into);
         t += 1;
     }
 }

@@ -8,9 +8,13 @@ mod classes;
 mod conflicts;
 mod ends;
 mod hits;
+mod looks;
+mod next;
 mod sources;
 
 use hierarchy::complete::start;
+use reaction::plan::EARLY;
+use reaction::plan::EVENTS;
 use reaction::plan::MIXED;
 use reaction::plan::Plan;
 use reaction::plan::START;
@@ -33,12 +37,14 @@ pub fn put_plan(sheet: &[u32], plan: &mut Plan)
     let certain = classed.certain;
     sources::put_from(sheet, plan);
     ends::put_ends(sheet, &children, &within, &containers, &meets, plan);
-    sources::put_loses(sheet, plan);
-    sources::put_gains(sheet, plan);
+    let events = next::put_next(sheet, plan);
     conflicts::put_conflicts(sheet, &meets, plan);
     classes::put_delays(sheet, timing, plan);
     hits::put_hits(sheet, certain, plan);
+    let mixed = classes::mixed(sheet, timing, certain);
     plan[TIMERS] = timing;
-    plan[MIXED] = classes::mixed(sheet, timing, certain);
+    plan[MIXED] = mixed;
+    plan[EARLY] = classes::early(sheet, mixed);
+    plan[EVENTS] = events;
     plan[START] = start(sheet, &children) as u64;
 }

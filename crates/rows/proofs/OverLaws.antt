@@ -1,11 +1,12 @@
 -- Laws of `over`: a row of stores, a row after a row, a part lent and put back. Assumes nothing.
-use mathlib.Core.Path.{_≡_, refl}
+use mathlib.Core.Path.{_≡_, refl, ap, _∙_}
+use mathlib.Core.Logic.{_⊎_, inl, inr}
 use mathlib.Core.List.{List, [], _++_, append-assoc, append-nil}
-use Prim.Native.Nat.{ℕ, _+_, _-_, _≤_}
+use Prim.Native.Nat.{ℕ, _+_, _-_, _≤_, _<_}
 use native.Mathlib.Omega.{arith}
 use native.Mathlib.Nat.{zero-add, add-zero, add-assoc}
-use lib.ListN.{length, take, drop, length-append, length-drop, take-append-drop, drop-of-length-le}
-use lib.Seq.{sets, sets-eq, length-take-le, take-all, take-at, drop-append-add, drop-drop}
+use lib.ListN.{length, getD, List·getD-append, take, drop, length-append, length-drop, take-append-drop, drop-of-length-le}
+use lib.Seq.{sets, sets-eq, length-take-le, take-all, take-at, drop-append-add, drop-drop, getD-take, getD-drop, getD-append-add}
 use borrow.Rule.Slice.PartMut.{putMid}
 use Rattle.rows.specs.Over.{over}
 
@@ -52,6 +53,26 @@ module _ (l : List ℕ) (at : ℕ) (vs : List ℕ) (h : at + length vs ≤ lengt
       let k : drop (n + length us) (over l at vs) ≡ drop (at + length (vs ++ us)) l =
       rw (e, length-append, ← add-assoc) (drop-over (length us)) in
       cc (over-def (over l at vs) n us, over-def l at (vs ++ us), take-over n e, append-assoc (take at l) vs us)
+
+  -- word i of the row, and a word that is not of the row
+  pub over-in : (i : ℕ) → i < length vs → getD (over l at vs) (at + i) 0 ≡ getD vs i 0
+  unfolding over
+  over-in i k =
+      let e : at + i ≡ length (take at l) + i = omega (arith, length-take-le at l (omega arith)) in
+      List·getD-append (take at l ++ vs) (drop (at + length vs) l) 0 (at + i) (omega (arith, head-length))
+      ∙ ap (λ (p : ℕ). getD (take at l ++ vs) p 0) e ∙ getD-append-add (take at l) vs i 0
+
+  pub over-out : (p : ℕ) → (p < at) ⊎ (at + length vs ≤ p) → getD (over l at vs) p 0 ≡ getD l p 0
+  unfolding over
+  over-out p (inl k) =
+      List·getD-append (take at l ++ vs) (drop (at + length vs) l) 0 p (omega (arith, head-length))
+      ∙ List·getD-append (take at l) vs 0 p (omega (arith, length-take-le at l (omega arith))) ∙ getD-take at l p 0 k
+  over-out p (inr k) =
+      let n : ℕ = at + length vs in
+      let e : p ≡ length (take at l ++ vs) + (p - n) = omega (arith, head-length) in
+      let q : n + (p - n) ≡ p = omega arith in
+      ap (λ (i : ℕ). getD (take at l ++ vs ++ drop n l) i 0) e ∙ getD-append-add (take at l ++ vs) (drop n l) (p - n) 0
+      ∙ getD-drop n l (p - n) 0 ∙ ap (λ (i : ℕ). getD l i 0) q
 
 -- a row put at the front of the part from `off` on
 pub over-part : (l : List ℕ) (off : ℕ) (vs : List ℕ) → off ≤ length l → take off l ++ over (drop off l) 0 vs ≡ over l off vs

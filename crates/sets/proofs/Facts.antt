@@ -1,18 +1,20 @@
 -- What a set or a bounded test says of a number, and how it is shown, as facts: a name that ends in -e takes a fact apart, one in -i shows it.
 -- Each is over the width w. Assumes nothing.
-use mathlib.Core.Path.{_≡_, sym, _∙_, subst}
+use mathlib.Core.Path.{_≡_, sym, ap, _∙_, subst}
 use mathlib.Core.Logic.{_⊎_, inl, inr}
 use mathlib.Core.Bool.{Bool, true, false, not, _&&_, _||_, or-false}
 use mathlib.Core.List.{List}
-use Prim.Native.Nat.{ℕ, zero, suc, _+_, _^_, _≤_, _<_, zero-le}
-use native.Mathlib.Nat.{le-refl, not-suc-le-zero, le-of-suc-le-suc, eq-or-lt-of-le, lt-of-not-le}
+use Prim.Native.Nat.{ℕ, zero, suc, _+_, _-_, _*_, _%_, _^_, _≤_, _<_, zero-le}
+use native.Mathlib.Nat.{le-refl, not-suc-le-zero, le-of-suc-le-suc, eq-or-lt-of-le, lt-of-not-le, mod-lt, add-zero}
 use native.Mathlib.Decide.{decLe}
 use native.Mathlib.Omega.{arith}
 use lib.Dec.{T, eqb→eq, eqb-refl}
+use lib.Bits.{or-disjoint}
+use lib.Pow.{pow-pos}
 use lib.ListN.{length}
-use Rattle.sets.specs.Sets.{has, union, single, setOf, those, membersFrom, members, prepend, size, some, every, someIn, everyIn}
-use Rattle.sets.proofs.Tests.{is-false, of-false, and-l, and-r, and-i, or-e, or-l, or-r, implied, implies}
-use Rattle.sets.proofs.Membership.{has-above, has-union, has-single, has-setOf, setOf-lt, has-those, those-lt}
+use Rattle.sets.specs.Sets.{has, union, meet, minus, single, setOf, those, membersFrom, members, prepend, size, some, every, someIn, everyIn}
+use Rattle.sets.proofs.Tests.{is-true, is-false, of-false, and-l, and-r, and-i, or-e, or-l, or-r, implied, implies}
+use Rattle.sets.proofs.Membership.{has-none, has-above, same-members, has-union, has-meet, has-minus, meet-le, has-join-low, has-join-high, has-low, has-single, has-setOf, setOf-lt, has-those, those-lt}
 
 -- a member of a set of w bits is below w
 pub has-lt : (w s i : ℕ) → s < 2 ^ w → T (has s i) → i < w
@@ -41,6 +43,53 @@ single-e m i h = eqb→eq i m (subst T (has-single m i) h)
 
 pub single-i : (m : ℕ) → T (has (single m) m)
 single-i m = subst T (sym (has-single m m)) (eqb-refl m)
+
+-- ---- what is in both, and what is in the one and not in the other
+
+pub meet-e : (a b i : ℕ) → T (has (meet a b) i) → T (has a i) × T (has b i)
+meet-e a b i h = let k = subst T (has-meet a b i) h in (and-l (has a i) (has b i) k, and-r (has a i) (has b i) k)
+
+pub meet-i : (a b i : ℕ) → T (has a i) → T (has b i) → T (has (meet a b) i)
+meet-i a b i h k = subst T (sym (has-meet a b i)) (and-i (has a i) (has b i) h k)
+
+pub minus-e : (a b i : ℕ) → T (has (minus a b) i) → T (has a i) × (T (has b i) → ⊥)
+minus-e a b i h =
+    let k = subst T (has-minus a b i) h in
+    (and-l (has a i) (not (has b i)) k, λ m. subst (λ (x : Bool). T (not x)) (is-true (has b i) m) (and-r (has a i) (not (has b i)) k))
+
+pub minus-i : (a b i : ℕ) → T (has a i) → (T (has b i) → ⊥) → T (has (minus a b) i)
+minus-i a b i h n =
+    subst T (sym (has-minus a b i)) (and-i (has a i) (not (has b i)) h (subst (λ (x : Bool). T (not x)) (sym (is-false (has b i) n)) tt))
+
+-- less where they have a member in common
+pub minus-less : (a b i : ℕ) → T (has a i) → T (has b i) → minus a b < a
+unfolding minus
+minus-less a b i h k =
+    let some : meet a b ≡ 0 → ⊥ = λ e. of-false (has-none i) (subst (λ (x : ℕ). T (has x i)) e (meet-i a b i h k)) in
+    omega (arith, meet-le a b)
+
+-- a union is the sum where they have none in common
+pub union-sum : (a b : ℕ) → ((i : ℕ) → T (has a i) → T (has b i) → ⊥) → union a b ≡ a + b
+union-sum a b n =
+    or-disjoint a b (same-members (λ i. is-false (has (meet a b) i) (λ h. let k = meet-e a b i h in n i (k .0) (k .1)) ∙ sym (has-none i)))
+
+-- ---- a set of w bits moved up by k
+
+pub shl-e : (w s k i : ℕ) → T (has (s * 2 ^ k % 2 ^ w) i) → (i < w) × (k ≤ i) × T (has s (i - k))
+shl-e w s k i h =
+    let l = has-lt w (s * 2 ^ k % 2 ^ w) i (mod-lt (s * 2 ^ k) (pow-pos w)) h in
+    let m : T (has (s * 2 ^ k + 0) i) = subst T (has-low w (s * 2 ^ k) i l ∙ ap (λ (x : ℕ). has x i) (sym (add-zero (s * 2 ^ k)))) h in
+    let up = above m (decLe k i) in
+    let e : i ≡ k + (i - k) = omega arith in
+    (l, up, subst T (has-join-high k s 0 (i - k) (pow-pos k)) (subst (λ (x : ℕ). T (has (s * 2 ^ k + 0) x)) e m))
+  where
+    above : T (has (s * 2 ^ k + 0) i) → Dec (k ≤ i) → k ≤ i
+    above m (yes q) = q
+    above m (no q) = absurd (of-false (has-join-low k s 0 i (lt-of-not-le q) ∙ has-none i) m)
+
+pub shl-i : (w s k i : ℕ) → k + i < w → T (has s i) → T (has (s * 2 ^ k % 2 ^ w) (k + i))
+shl-i w s k i l h =
+    subst T (sym (has-low w (s * 2 ^ k) (k + i) l ∙ ap (λ (x : ℕ). has x (k + i)) (sym (add-zero (s * 2 ^ k))) ∙ has-join-high k s 0 i (pow-pos k))) h
 
 -- ---- sets by a test
 

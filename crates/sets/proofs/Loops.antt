@@ -1,7 +1,8 @@
 -- Loops that try a test on 0, 1, .. and leave at the first number that decides, or add to a set the numbers that pass: the start,
 -- one turn, where it leaves and the end. And how the code tests a call's result. Assumes nothing.
 use mathlib.Core.Path.{_≡_, refl, sym, ap, ap₂, _∙_}
-use mathlib.Core.Bool.{Bool, true, false, not, _&&_, and-assoc, and-comm}
+use mathlib.Core.Logic.{_⊎_, inl, inr}
+use mathlib.Core.Bool.{Bool, true, false, not, _&&_, _||_, and-true, and-false, and-assoc, and-comm, or-false, or-comm}
 use mathlib.Core.List.{List}
 use Prim.Native.Nat.{ℕ, zero, suc, _+_, _*_, _^_, _≤_, _<_}
 use native.Mathlib.Nat.{le-antisymm, one-mul, zero-mul}
@@ -9,12 +10,12 @@ use native.Mathlib.Numerals.{add-one}
 use native.Mathlib.Decide.{ℕ-discrete}
 use native.Mathlib.Omega.{arith}
 use lib.Bits.{or-zero-r}
-use lib.Dec.{ltb, ltb→lt}
+use lib.Dec.{eqb, ltb, ltb→lt}
 use lib.ListN.{length, getD, set, replicate}
 use lib.Seq.{getD-set-same, getD-set-other}
-use borrow.Author.Tests.{not-true, not-false}
+use borrow.Author.Tests.{eq-eqb, ne-eqb, lt-ltb, le-ltb, not-true, not-false}
 use Rattle.sets.specs.Sets.{has, union, single, digit, setOf, some, every}
-use Rattle.sets.proofs.Tests.{is-true, is-false, of-true, of-false, and-r}
+use Rattle.sets.proofs.Tests.{is-true, is-false, of-true, of-false, and-r, below-or-not}
 use Rattle.sets.proofs.Membership.{setOf-add, setOf-skip}
 use Rattle.sets.proofs.Facts.{some-i, every-e}
 
@@ -53,6 +54,20 @@ module _ (p : ℕ → Bool) where
 
   pub some-done : (n m : ℕ) → m ≤ n → n ≤ m → some m p ≡ false → some n p ≡ false
   some-done n m h k e = ap (λ (i : ℕ). some i p) (le-antisymm k h) ∙ e
+
+  -- without leaving: the flag so far, with the test of the next number
+  pub some-or : (m : ℕ) {ok a : Bool} → ok ≡ some m p → a ≡ p m → (ok || a) ≡ some (m + 1) p
+  unfolding some
+  some-or m {ok} {a} h e = rw (add-one, h, e) (or-comm (some m p) (p m))
+
+  -- of the numbers below m, and of m, those that have p are those below m + 1 that do
+  pub below-next : (m i : ℕ) → ((ltb i m && p i) || (p m && eqb i m)) ≡ (ltb i (m + 1) && p i)
+  below-next m i = go (ℕ-discrete i m) (below-or-not i m)
+    where
+      go : Dec (i ≡ m) → (i < m) ⊎ (m ≤ i) → ((ltb i m && p i) || (p m && eqb i m)) ≡ (ltb i (m + 1) && p i)
+      go (yes e) b = rw (eq-eqb i m e, le-ltb i m (omega arith), lt-ltb i (m + 1) (omega arith), e) (and-true (p m))
+      go (no n) (inl l) = rw (ne-eqb i m n, lt-ltb i m l, lt-ltb i (m + 1) (omega arith), and-false (p m)) (or-false (p i))
+      go (no n) (inr l) = rw (ne-eqb i m n, le-ltb i m l, le-ltb i (m + 1) (omega arith)) (and-false (p m))
 
   -- the numbers below n that have p: so far, those below t; the next is tested by b, and added or passed over
   pub setOf-none : 0 ≡ setOf 0 p

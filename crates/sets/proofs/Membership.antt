@@ -6,12 +6,14 @@ use native.Mathlib.Nat.{lt-of-lt-of-le, mod-lt, mod-le, lt-of-not-le, zero-add, 
 use native.Mathlib.Numerals.{add-one}
 use native.Mathlib.Decide.{decLe}
 use native.Mathlib.Omega.{arith}
-use mathlib.Core.Logic.{⊎-elim}
+use mathlib.Core.Logic.{_⊎_, inl, inr, ⊎-elim}
 use lib.Dec.{eqb, ltb, eqb·zero-suc, eqb·suc-zero, eqb·suc-suc, leb·zero, leb·suc-zero, leb·suc-suc}
 use lib.Arith.{lt-one, digits-lt}
 use lib.Pow.{pow-pos, pow-add, pow-mono, pow-lt, ones-lt, ones-split, high, split, shr-shr}
 use lib.Bits.{bitAnd, bitOr, and-step, or-step, and-le-l, or-lt, or-shifted-r, and-mask, block-half, block-odd}
+use borrow.Author.Tests.{lt-ltb, le-ltb}
 use Rattle.sets.specs.Sets.{has, union, meet, minus, single, below, digit, setOf, those}
+use Rattle.sets.proofs.Tests.{below-or-not}
 
 two-pos : 0 < 2
 two-pos = zero-lt-suc 1
@@ -263,6 +265,14 @@ has-setOf (suc n) p i l =
 -- a set of n bits that has what the test says is the set of the test
 pub setOf-ext : (n : ℕ) (p : ℕ → Bool) {s : ℕ} → s < 2 ^ n → ((i : ℕ) → i < n → has s i ≡ p i) → s ≡ setOf n p
 setOf-ext n p h e = ext n h (setOf-lt n p) (λ i l. e i l ∙ sym (has-setOf n p i l))
+
+-- of every number
+pub setOf-has : (n : ℕ) (p : ℕ → Bool) (i : ℕ) → has (setOf n p) i ≡ (ltb i n && p i)
+setOf-has n p i = at (below-or-not i n)
+  where
+    at : (i < n) ⊎ (n ≤ i) → has (setOf n p) i ≡ (ltb i n && p i)
+    at (inl l) = rw (lt-ltb i n l) (has-setOf n p i l)
+    at (inr l) = rw (le-ltb i n l) (has-above n (setOf n p) i (setOf-lt n p) l)
 
 -- tests that agree below n have one set
 pub setOf-same : (n : ℕ) (p q : ℕ → Bool) → ((i : ℕ) → i < n → p i ≡ q i) → setOf n p ≡ setOf n q

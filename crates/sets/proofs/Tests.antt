@@ -79,6 +79,11 @@ pub cond-ext : {A : Type 0} (b : Bool) (x y z : A) → (T b → x ≡ y) → con
 cond-ext true x y z h = h tt
 cond-ext false x y z h = refl
 
+-- a test passes, or not
+pub true-or-not : (b : Bool) → T b ⊎ (T b → ⊥)
+true-or-not true = inl tt
+true-or-not false = inr (λ h. h)
+
 -- a number is below another, or not
 pub below-or-not : (m n : ℕ) → (m < n) ⊎ (n ≤ m)
 below-or-not m n = go (ltb m n) refl

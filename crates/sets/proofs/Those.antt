@@ -74,7 +74,7 @@ module _ {w s t r : ℕ} (d : ℕ) (u : Turn w s t r) where
       at i (yes q) = ap (has (minus d s)) q ∙ none s ∙ sym (ap (has (minus d r)) q ∙ none r)
       at i (no q) = built-other i q
 
-  built-add : d < 2 ^ w → has d t ≡ true → union (minus d s) (single t) ≡ minus d r
+  pub built-add : d < 2 ^ w → has d t ≡ true → union (minus d s) (single t) ≡ minus d r
   built-add h e =
       ext w (union-lt w (lt-of-le-of-lt (minus-le d s) h) (single-lt w t (u .lowest .small))) (lt-of-le-of-lt (minus-le d r) h) (λ i l. at i (ℕ-discrete i t))
     where

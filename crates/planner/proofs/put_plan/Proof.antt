@@ -9,8 +9,8 @@ use Rattle.meaning.proofs.SheetLaws.{sound, n-le}
 use Rattle.sheet.specs.Masks.{Withins}
 use Rattle.sheet.proofs.Past.{head-read, tree-read}
 use Rattle.sheet.proofs.ContainmentLaws.{withins-of}
-use Rattle.reaction.specs.Plan.{exitsPart, entersPart, conflictsPart, yieldersPart, losesPart, gainsPart, delaysPart, hitsPart, fromPart, timersWord, mixedWord, startWord}
-use Rattle.planner.proofs.Assembly.{Laid, lay, lay-word, none-laid, laid-has, laid-long, laid-zero, fromPiece, losesPiece, delaysPiece, ends, changes, conflicts, classes, row-fits, hits-fit, planned-of}
+use Rattle.reaction.specs.Plan.{endsPart, conflictsPart, yieldersPart, nextPart, delaysPart, hitsPart, fromPart, namedPart, timersWord, mixedWord, earlyWord, eventsWord, startWord}
+use Rattle.planner.proofs.Assembly.{Laid, lay, lay-word, none-laid, laid-has, laid-long, laid-zero, fromPiece, delaysPiece, ends, nexts, conflicts, classes, row-fits, hits-fit, planned-of}
 use Rattle.planner.proofs.put_plan.Statement.{statement}
 use Rattle.planner.proofs.put_plan.Tie as tie
 
@@ -21,14 +21,11 @@ by-from c = c .before .before
 abbrev by-ends : tie.After-put-ends → tie.After-classes-of
 by-ends c = by-from (c .before .before .before .before .before .before)
 
-abbrev by-loses : tie.After-put-loses → tie.After-classes-of
-by-loses c = by-ends (c .before .before)
-
-abbrev by-gains : tie.After-put-gains → tie.After-classes-of
-by-gains c = by-loses (c .before .before)
+abbrev by-next : tie.After-put-next → tie.After-classes-of
+by-next c = by-ends (c .before .before)
 
 abbrev by-conflicts : tie.After-put-conflicts → tie.After-classes-of
-by-conflicts c = by-gains (c .before .before .before)
+by-conflicts c = by-next (c .before .before .before)
 
 abbrev by-delays : tie.After-put-delays → tie.After-classes-of
 by-delays c = by-conflicts (c .before .before)
@@ -54,21 +51,19 @@ laid-from c = lay _ (record { within = omega arith; inside = omega arith }) (non
 
 laid-ends : (c : tie.After-put-ends) → let s = sheet (by-ends c) in Laid (ends s) (c .put-ends .last .1 .1 .1 .1 .1 .0)
 laid-ends c =
-    let h = past (by-ends c) in
-    lay _ (row-fits _ h entersPart _ (omega arith))
-    (lay _ (row-fits _ h exitsPart _ (omega arith)) (laid-from (c .before .before .before .before .before .before)) refl) (c .put-ends .ensures)
+    lay _ (row-fits _ (past (by-ends c)) endsPart _ (omega arith)) (laid-from (c .before .before .before .before .before .before)) (c .put-ends .ensures)
 
-laid-loses : (c : tie.After-put-loses) → let s = sheet (by-loses c) in Laid (losesPiece s ∷ ends s) (c .put-loses .last .1 .0)
-laid-loses c = lay _ (row-fits _ (past (by-loses c)) losesPart _ (omega arith)) (laid-ends (c .before .before)) (c .put-loses .ensures)
-
-laid-gains : (c : tie.After-put-gains) → let s = sheet (by-gains c) in Laid (changes s) (c .put-gains .last .1 .0)
-laid-gains c = lay _ (row-fits _ (past (by-gains c)) gainsPart _ (omega arith)) (laid-loses (c .before .before)) (c .put-gains .ensures)
+laid-next : (c : tie.After-put-next) → let s = sheet (by-next c) in Laid (nexts s) (c .put-next .last .1 .0)
+laid-next c =
+    lay _ (row-fits _ (past (by-next c)) nextPart _ (omega arith))
+    (lay _ (record { within = omega arith; inside = omega arith })
+    (lay _ (record { within = omega arith; inside = omega arith }) (laid-ends (c .before .before)) refl) refl) (c .put-next .ensures .1)
 
 laid-conflicts : (c : tie.After-put-conflicts) → let s = sheet (by-conflicts c) in Laid (conflicts s) (c .put-conflicts .last .1 .1 .0)
 laid-conflicts c =
     let h = past (by-conflicts c) in
     lay _ (row-fits _ h yieldersPart _ (omega arith))
-    (lay _ (row-fits _ h conflictsPart _ (omega arith)) (laid-gains (c .before .before .before)) refl) (c .put-conflicts .ensures)
+    (lay _ (row-fits _ h conflictsPart _ (omega arith)) (laid-next (c .before .before .before)) refl) (c .put-conflicts .ensures)
 
 laid-delays : (c : tie.After-put-delays) → let s = sheet (by-delays c) in Laid (delaysPiece s ∷ conflicts s) (c .put-delays .last .1 .1 .0)
 laid-delays c = lay _ (record { within = omega arith; inside = omega arith }) (laid-conflicts (c .before .before)) (c .put-delays .ensures)
@@ -102,20 +97,15 @@ put-ends-requires c κs =
     let b = by-from f in
     (past b, laid-long (laid-from f), b .before .before .before .before .before .children .ensures, withins b, b .before .before .before .containers .ensures, b .before .meetings .ensures)
 
-put-loses-requires : tie.Need-put-loses-requires
-put-loses-requires c κs =
+put-next-requires : tie.Need-put-next-requires
+put-next-requires c κs =
     let d = laid-ends (c .before) in
-    (past (by-ends (c .before)), laid-long d, laid-has 2 d tt, laid-has 1 d tt)
-
-put-gains-requires : tie.Need-put-gains-requires
-put-gains-requires c κs =
-    let d = laid-loses (c .before) in
-    (past (by-loses (c .before)), laid-long d, laid-has 3 d tt, laid-has 1 d tt)
+    (past (by-ends (c .before)), laid-long d, laid-has 1 d tt, laid-has 0 d tt, laid-zero nextPart 64 d (omega arith) tt, laid-zero namedPart 32 d (omega arith) tt)
 
 put-conflicts-requires : tie.Need-put-conflicts-requires
 put-conflicts-requires c κs =
     let f = c .before .before in
-    (past (by-gains f), laid-long (laid-gains f), by-gains f .before .meetings .ensures)
+    (past (by-next f), laid-long (laid-next f), by-next f .before .meetings .ensures)
 
 put-delays-requires : tie.Need-put-delays-requires
 put-delays-requires c κs =
@@ -127,37 +117,48 @@ put-hits-requires c κs =
     let d = laid-delays (c .before) in
     (past (by-delays (c .before)), laid-long d, by-delays (c .before) .classes-of .ensures .1, laid-zero hitsPart 64 d (omega arith) tt)
 
-element-write-plan : tie.Need-element-write-plan
-element-write-plan c = search needs
-
 mixed-requires : tie.Need-mixed-requires
 mixed-requires c κs = (past (by-hits c), by-hits c .classes-of .ensures .0, by-hits c .classes-of .ensures .1)
+
+element-write-plan : tie.Need-element-write-plan
+element-write-plan c = search needs
 
 element-write-plan-2 : tie.Need-element-write-plan-2
 element-write-plan-2 c = search needs
 
+early-requires : tie.Need-early-requires
+early-requires c κs = (past (by-hits (c .before)), c .mixed .ensures)
+
+element-write-plan-3 : tie.Need-element-write-plan-3
+element-write-plan-3 c = search needs
+
+element-write-plan-4 : tie.Need-element-write-plan-4
+element-write-plan-4 c = search needs
+
 start-requires : tie.Need-start-requires
 start-requires c κs =
-    let b = by-hits (c .before .before) in
+    let b = by-hits (c .before .before .before) in
     (past b, b .before .before .before .before .before .children .ensures)
 
 cast-plan : tie.Need-cast-plan
 cast-plan c = search needs
 
-element-write-plan-3 : tie.Need-element-write-plan-3
-element-write-plan-3 c = search needs
+element-write-plan-5 : tie.Need-element-write-plan-5
+element-write-plan-5 c = search needs
 
 returns : tie.Need-returns
 returns c =
-    let f = c .before .before .before in
+    let f = c .before .before .before .before in
     planned-of (sheet (by-hits f)) (past (by-hits f))
     (lay-word startWord (omega arith) (c .start .ensures)
-    (lay-word mixedWord (omega arith) (c .before .before .mixed .ensures) (lay-word timersWord (omega arith) (by-hits f .classes-of .ensures .0) (laid-hits f))))
+    (lay-word eventsWord (omega arith) (f .before .before .before .before .before .before .before .put-next .ensures .0)
+    (lay-word earlyWord (omega arith) (c .before .before .early .ensures)
+    (lay-word mixedWord (omega arith) (c .before .before .before .mixed .ensures) (lay-word timersWord (omega arith) (by-hits f .classes-of .ensures .0) (laid-hits f))))))
 
 pub put-plan-spec : {M : Type 1} → statement M
 put-plan-spec =
     tie.close
     (tie.spec children-requires within-each-requires containers-requires meetings-requires classes-of-requires
-    put-from-requires put-ends-requires put-loses-requires put-gains-requires put-conflicts-requires
-    put-delays-requires put-hits-requires element-write-plan mixed-requires element-write-plan-2 start-requires
-    cast-plan element-write-plan-3 returns)
+    put-from-requires put-ends-requires put-next-requires put-conflicts-requires put-delays-requires put-hits-requires mixed-requires
+    element-write-plan element-write-plan-2 early-requires element-write-plan-3 element-write-plan-4 start-requires cast-plan
+    element-write-plan-5 returns)
