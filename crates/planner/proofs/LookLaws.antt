@@ -1,5 +1,5 @@
 -- What terms are about: one term, and the loop over the terms of a transition. Assumes nothing.
-use mathlib.Core.Path.{_≡_, sym, ap₂, _∙_, subst}
+use mathlib.Core.Path.{_≡_, refl, sym, ap, ap₂, _∙_, subst}
 use mathlib.Core.Logic.{_⊎_, inl, inr, ⊎-elim}
 use mathlib.Core.Bool.{Bool, true, false, _&&_, _||_, or-false}
 use mathlib.Core.List.{List}
@@ -8,15 +8,18 @@ use native.Mathlib.Omega.{arith}
 use lib.Dec.{T, eqb, eqb→eq, ltb→lt}
 use borrow.Author.Tests.{ne-eqb}
 use Rattle.sets.specs.Sets.{has, union, single, some}
-use Rattle.sets.proofs.Tests.{and-l, and-r, or-e, eqb-sym}
+use Rattle.sets.proofs.Tests.{of-true, and-l, and-r, or-e, eqb-sym}
 use Rattle.sets.proofs.Facts.{has-lt, some-e}
 use Rattle.sets.proofs.Membership.{has-none, has-single, has-union}
+use Rattle.sets.proofs.Quantifiers.{some-false}
 use Rattle.sets.proofs.Loops.{some-or}
 use Rattle.meaning.specs.Sheet.{nOf, kOf, tOf, termCount, termKind, termValue}
 use Rattle.meaning.specs.Check.{kindOk, termOk, sheetRefusal}
+use Rattle.meaning.specs.Reaction.{isDelay}
 use Rattle.meaning.specs.NamedEvents.{names}
 use Rattle.meaning.proofs.SheetLaws.{sound, n-le, k-le, t-le}
 use Rattle.reaction.proofs.TermLaws.{mask-lt}
+use Rattle.reaction.proofs.AboutLaws.{delay-kind}
 use Rattle.planner.specs.Looks.{onEvent, onEntry, onExit, onTaken, someTerm, LooksTo, looksEntry, looksExit, looksTaken}
 
 -- ---- one term
@@ -146,6 +149,23 @@ module _ (s : List ℕ) (u : ℕ) where
 
   pub looks-done : {n m a b d e : ℕ} → LooksTo s u n a b d e → n ≡ m → LooksTo s u m a b d e
   looks-done k q = rw q at k
+
+-- a delay is about none of these
+module _ (s : List ℕ) (h : sheetRefusal s ≡ 0) (t : ℕ) (l : t < tOf s) (w : isDelay s t ≡ true) where
+  none : (on : ℕ → ℕ → ℕ → Bool) (i : ℕ) → ((v : ℕ) → on 0 v i ≡ false) → has 0 i ≡ someTerm s on t (termCount s t) i
+  none on i e =
+      has-none i
+      ∙ sym (some-false (termCount s t) (λ j. on (termKind s t j) (termValue s t j) i) (λ j k.
+      ap (λ (c : ℕ). on c (termValue s t j) i) (delay-kind s h t l (of-true w) j k) ∙ e (termValue s t j)))
+
+  pub delay-looks : LooksTo s t (termCount s t) 0 0 0 0
+  delay-looks =
+      record {
+        events = λ i. none onEvent i (λ v. refl);
+        entry = λ i. none onEntry i (λ v. refl);
+        exit = λ i. none onExit i (λ v. refl);
+        taken = λ i. none onTaken i (λ v. refl);
+      }
 
 -- what the terms of a transition are about, by its words
 module _ (s : List ℕ) (h : sheetRefusal s ≡ 0) (t : ℕ) (l : t < tOf s) {es ms xs ts : ℕ} (o : LooksTo s t (termCount s t) es ms xs ts) where

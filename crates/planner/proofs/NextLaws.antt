@@ -165,6 +165,39 @@ module _ (s plan₀ entry₀ exit₀ : List ℕ) where
           events = λ e. has-union all es e ∙ some-or (λ u. names s u e) t (d .events e) (names-are s h t l o e);
         }
 
+  -- one transition more whose terms are about none of these
+  module _ (h : sheetRefusal s ≡ 0) (t : ℕ) (l : t < tOf s) {plan entry exit : List ℕ} {all : ℕ} (d : LookedTo s t plan₀ plan entry₀ entry exit₀ exit all)
+      (o : LooksTo s t (termCount s t) 0 0 0 0) where
+    below-skip : (p : ℕ → Bool) (u : ℕ) → p t ≡ false → (ltb u t && p u) ≡ (ltb u (t + 1) && p u)
+    below-skip p u e =
+        sym (or-false (ltb u t && p u)) ∙ ap (λ (b : Bool). (ltb u t && p u) || (b && eqb u t)) (sym e) ∙ below-next p t u
+
+    not-named : (e : ℕ) → names s t e ≡ false
+    not-named e = sym (names-are s h t l o e) ∙ has-none e
+
+    pub looked-skip : LookedTo s (t + 1) plan₀ plan entry₀ entry exit₀ exit all
+    looked-skip =
+        record {
+          planLong = d .planLong;
+          named =
+              λ m e q.
+              sym (or-false (has (getD plan (namedPart + m) 0) e))
+              ∙ some-or (λ u. has (single m) (source s u) && names s u e) t (d .named m e q)
+              (sym (ap (λ (b : Bool). has (single m) (source s t) && b) (not-named e) ∙ and-false (has (single m) (source s t))));
+          next = λ v u q. d .next v u q ∙ below-skip (λ w. looksTaken s w v) u (sym (taken-is s h t l o v) ∙ has-none v);
+          beside = d .beside;
+          entryLong = d .entryLong;
+          entries =
+              λ m u. d .entries m u ∙ ap (λ (b : Bool). has (getD entry₀ m 0) u || b) (below-skip (λ v. looksEntry s v m) u (sym (entry-is s h t l o m) ∙ has-none m));
+          exitLong = d .exitLong;
+          exits = λ m u. d .exits m u ∙ ap (λ (b : Bool). has (getD exit₀ m 0) u || b) (below-skip (λ v. looksExit s v m) u (sym (exit-is s h t l o m) ∙ has-none m));
+          events = λ e. sym (or-false (has all e)) ∙ some-or (λ u. names s u e) t (d .events e) (sym (not-named e));
+        }
+
+  pub looked-same : {n all all′ : ℕ} {plan plan′ entry entry′ exit exit′ : List ℕ} → plan ≡ plan′ → entry ≡ entry′ → exit ≡ exit′ → all ≡ all′
+      → LookedTo s n plan₀ plan′ entry₀ entry′ exit₀ exit′ all′ → LookedTo s n plan₀ plan entry₀ entry exit₀ exit all
+  looked-same a b c e d = rw (a, b, c, e) d
+
   pub looked-done : {n m : ℕ} {plan entry exit : List ℕ} {all : ℕ} → LookedTo s n plan₀ plan entry₀ entry exit₀ exit all → n ≡ m
       → LookedTo s m plan₀ plan entry₀ entry exit₀ exit all
   looked-done d e = rw e at d

@@ -20,6 +20,7 @@ use reaction::plan::NEXT;
 use reaction::plan::Plan;
 use reaction::plan::entered_modes;
 use reaction::plan::mode_set;
+use reaction::terms::is_delay;
 use sets::modes;
 use sets::transitions;
 use sheet::words::source;
@@ -38,7 +39,7 @@ fn add_to(words: &mut [u64], at: usize, set: u64, t: usize)
 }
 
 // NAMED; of NEXT what is about taken transitions; the transitions with a term about each mode's entry and exit are added to the words of
-// the modes. The events that any transition names.
+// the modes. The events that any transition names. A delay's term is about none of these.
 fn put_looks(sheet: &[u32], plan: &mut Plan, entry: &mut [u64; 32], exit: &mut [u64; 32]) -> u64
     requires { ⌜ (sheetRefusal (now sheet) ≡ 0)
         × (length (now plan) ≡ planSize)
@@ -55,13 +56,15 @@ fn put_looks(sheet: &[u32], plan: &mut Plan, entry: &mut [u64; 32], exit: &mut [
     let mut all = 0u64;
     let mut t = 0;
     while t < count {
-        let l = looks_of(sheet, t);
-        let m = source(sheet, t);
-        plan[NAMED + m] |= l.events;
-        all |= l.events;
-        add_to(entry, 0, l.entry as u64, t);
-        add_to(exit, 0, l.exit as u64, t);
-        add_to(plan, NEXT, l.taken, t);
+        if !is_delay(sheet, t) {
+            let l = looks_of(sheet, t);
+            let m = source(sheet, t);
+            plan[NAMED + m] |= l.events;
+            all |= l.events;
+            add_to(entry, 0, l.entry as u64, t);
+            add_to(exit, 0, l.exit as u64, t);
+            add_to(plan, NEXT, l.taken, t);
+        }
         t += 1;
     }
     all

@@ -112,7 +112,7 @@ about-none s t c v h a =
 
 module _ (s : List ℕ) (h : sheetRefusal s ≡ 0) (u : ℕ) (l : u < tOf s) where
   -- a delay is the only term
-  delay-kind : T (isDelay s u) → (j : ℕ) → j < termCount s u → termKind s u j ≡ 0
+  pub delay-kind : T (isDelay s u) → (j : ℕ) → j < termCount s u → termKind s u j ≡ 0
   unfolding isDelay termOk kindOk
   delay-kind d j k =
       let e : termKind s u 0 ≡ 0 = eqb→eq (termKind s u 0) 0 d in

@@ -1,18 +1,20 @@
 -- `planner::next::put_looks` meets its contract: the words have what the transitions passed are about. Assumes nothing.
-use mathlib.Core.Path.{_≡_}
+use mathlib.Core.Path.{_≡_, sym, _∙_}
+use mathlib.Core.Logic.{⊎-elim}
 use mathlib.Core.List.{List}
 use Prim.Native.Nat.{ℕ, _-_, _≤_, _<_}
 use native.Mathlib.Omega.{arith}
 use lib.ListN.{length-set}
 use borrow.Author.Needs.{needs}
+use borrow.Author.Tests.{not-false}
 use Rattle.sets.proofs.Tests.{of-true}
 use Rattle.meaning.specs.Sheet.{tOf}
 use Rattle.meaning.specs.Check.{sheetRefusal}
 use Rattle.meaning.proofs.SheetLaws.{sound, t-le, n-le, source-lt}
 use Rattle.sheet.proofs.Past.{head-read, record-read}
 use Rattle.planner.specs.Looks.{LookedTo}
-use Rattle.planner.proofs.LookLaws.{entry-small, exit-small, taken-small}
-use Rattle.planner.proofs.NextLaws.{looked-start, looked-turn, looked-done}
+use Rattle.planner.proofs.LookLaws.{delay-looks, entry-small, exit-small, taken-small}
+use Rattle.planner.proofs.NextLaws.{looked-start, looked-turn, looked-skip, looked-same, looked-done}
 use Rattle.planner.proofs.next.put_looks.Statement.{statement}
 use Rattle.planner.proofs.next.put_looks.Tie as tie
 
@@ -34,24 +36,27 @@ loop-holds c =
       looked-start (b .args .sheet .now) (b .args .plan .now) (b .args .entry .now) (b .args .exit .now) (b .pre .4) (b .pre .5),
     )
 
+is-delay-requires : tie.Need-is-delay-requires Inv-loop μ-loop
+is-delay-requires c κs = (c .before .before .before .before .pre .0, omega arith)
+
 looks-of-requires : tie.Need-looks-of-requires Inv-loop μ-loop
-looks-of-requires c κs = (c .before .before .before .before .pre .0, omega arith)
+looks-of-requires c κs = (c .before .before .before .before .before .before .pre .0, omega arith)
 
 source-requires : tie.Need-source-requires Inv-loop μ-loop
 source-requires c κs =
-    let b = c .before .before .before .before .before in
-    record-read (b .args .sheet .now) (b .pre .0) (c .before .before .loop .t) (omega arith)
+    let b = c .before .before .before .before .before .before .before in
+    record-read (b .args .sheet .now) (b .pre .0) (c .before .before .before .before .loop .t) (omega arith)
 
 -- in a turn: the sheet, the transition, its source, the words so far and what its terms are about
 module _ (c : tie.After-source Inv-loop μ-loop) where
   abbrev start : tie.Start Inv-loop μ-loop
-  start = c .before .before .before .before .before .before
+  start = c .before .before .before .before .before .before .before .before
 
   abbrev sheet : List ℕ
   sheet = start .args .sheet .now
 
   abbrev t : ℕ
-  t = c .before .before .before .loop .t
+  t = c .before .before .before .before .before .loop .t
 
   past : sheetRefusal sheet ≡ 0
   past = start .pre .0
@@ -65,9 +70,9 @@ module _ (c : tie.After-source Inv-loop μ-loop) where
   mode : c .source .result < 32
   mode = omega (arith, n-le sheet (sound sheet past), source-lt sheet (sound sheet past) t t-small, c .source .ensures)
 
-  abbrev looked : LookedTo sheet t (start .args .plan .now) (c .before .before .before .loop .plan) (start .args .entry .now) (c .before .before .before .loop .entry) (start .args .exit .now)
-      (c .before .before .before .loop .exit) (c .before .before .before .loop .all)
-  looked = c .before .before .before .loop .inv .2
+  abbrev looked : LookedTo sheet t (start .args .plan .now) (c .before .before .before .before .before .loop .plan) (start .args .entry .now) (c .before .before .before .before .before .loop .entry) (start .args .exit .now)
+      (c .before .before .before .before .before .loop .exit) (c .before .before .before .before .before .loop .all)
+  looked = c .before .before .before .before .before .loop .inv .2
 
 add-plan : tie.Need-add-plan Inv-loop μ-loop
 add-plan c = omega (arith, mode c)
@@ -107,18 +112,30 @@ add-to-requires-3 c κs =
     )
 
 add-t : tie.Need-add-t Inv-loop μ-loop
-add-t c = omega (arith, below (c .before .before .before .before .before .before .before .before .before .before .before))
+add-t c = omega arith
 
 loop-less : tie.Need-loop-less Inv-loop μ-loop
-loop-less c = omega (arith, t-small (c .before .before .before .before .before .before .before .before .before .before .before))
+loop-less c = omega arith
 
 loop-again : tie.Need-loop-again Inv-loop μ-loop
 loop-again c =
-    let at = c .before .before .before .before .before .before .before .before .before .before .before in (
-      omega (arith, t-small at),
-      at .before .before .before .loop .inv .1,
-      looked-turn (sheet at) (start at .args .plan .now) (start at .args .entry .now) (start at .args .exit .now) (past at) (t at) (t-small at) (start at .pre .1) (looked at)
-          (at .before .looks-of .ensures) (at .source .ensures) (c .before .before .before .before .before .add-to .ensures) (c .before .before .add-to2 .ensures) (c .add-to3 .ensures),
+    let b = c .before .before .before .before .before .before in
+    let l = c .before .before .before .loop in
+    let s = b .args .sheet .now in
+    let t-small : l .t < tOf s = omega arith in
+    let past = b .pre .0 in (
+      omega (arith, t-small),
+      l .inv .1,
+      ⊎-elim
+          (λ w.
+          looked-same s (b .args .plan .now) (b .args .entry .now) (b .args .exit .now) (w .14) (w .15) (w .16) (w .17)
+          (looked-turn s (b .args .plan .now) (b .args .entry .now) (b .args .exit .now) past (l .t) t-small (b .pre .1) (l .inv .2)
+          (w .1 .ensures) (w .2 .ensures) (w .8 .ensures) (w .11 .ensures) (w .13 .ensures)))
+          (λ w.
+          looked-same s (b .args .plan .now) (b .args .entry .now) (b .args .exit .now) (w .1) (w .2) (w .3) (w .4)
+          (looked-skip s (b .args .plan .now) (b .args .entry .now) (b .args .exit .now) past (l .t) t-small (l .inv .2)
+          (delay-looks s past (l .t) t-small (sym (c .before .is-delay .ensures) ∙ not-false _ (w .0 .left)))))
+          (c .if1 .came),
     )
 
 returns : tie.Need-returns Inv-loop μ-loop
@@ -129,6 +146,6 @@ returns c =
 pub put-looks-spec : {M : Type 1} → statement M
 put-looks-spec =
     tie.close
-    (tie.spec Inv-loop μ-loop transition-count-requires loop-holds looks-of-requires source-requires add-plan mul-plan
+    (tie.spec Inv-loop μ-loop transition-count-requires loop-holds is-delay-requires looks-of-requires source-requires add-plan mul-plan
     element-copy-out-plan element-write-plan cast-add-to add-to-requires cast-add-to-2 add-to-requires-2 add-to-requires-3
     add-t loop-less loop-again returns)
