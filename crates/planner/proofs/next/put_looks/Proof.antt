@@ -65,7 +65,8 @@ module _ (c : tie.After-source Inv-loop μ-loop) where
   mode : c .source .result < 32
   mode = omega (arith, n-le sheet (sound sheet past), source-lt sheet (sound sheet past) t t-small, c .source .ensures)
 
-  abbrev looked : LookedTo sheet t (start .args .plan .now) (c .before .before .before .loop .plan) (start .args .entry .now) (c .before .before .before .loop .entry) (start .args .exit .now)
+  abbrev looked : LookedTo sheet t (start .args .plan .now) (c .before .before .before .loop .plan) (start .args .entry .now)
+      (c .before .before .before .loop .entry) (start .args .exit .now)
       (c .before .before .before .loop .exit) (c .before .before .before .loop .all)
   looked = c .before .before .before .loop .inv .2
 
@@ -86,16 +87,30 @@ cast-add-to c = search needs
 
 add-to-requires : tie.Need-add-to-requires Inv-loop μ-loop
 add-to-requires c κs =
-    let at = c .before .before .before .before .before in
-    (below at, λ k q. omega (arith, entry-small (sheet at) (past at) (t at) (t-small at) (at .before .looks-of .ensures) k (of-true q), looked at .entryLong, start at .pre .2))
+    let at = c .before .before .before .before .before in (
+      below at,
+      λ k q. omega (
+        arith,
+        entry-small (sheet at) (past at) (t at) (t-small at) (at .before .looks-of .ensures) k (of-true q),
+        looked at .entryLong,
+        start at .pre .2,
+      ),
+    )
 
 cast-add-to-2 : tie.Need-cast-add-to-2 Inv-loop μ-loop
 cast-add-to-2 c = search needs
 
 add-to-requires-2 : tie.Need-add-to-requires-2 Inv-loop μ-loop
 add-to-requires-2 c κs =
-    let at = c .before .before .before .before .before .before .before .before in
-    (below at, λ k q. omega (arith, exit-small (sheet at) (past at) (t at) (t-small at) (at .before .looks-of .ensures) k (of-true q), looked at .exitLong, start at .pre .3))
+    let at = c .before .before .before .before .before .before .before .before in (
+      below at,
+      λ k q. omega (
+        arith,
+        exit-small (sheet at) (past at) (t at) (t-small at) (at .before .looks-of .ensures) k (of-true q),
+        looked at .exitLong,
+        start at .pre .3,
+      ),
+    )
 
 add-to-requires-3 : tie.Need-add-to-requires-3 Inv-loop μ-loop
 add-to-requires-3 c κs =
@@ -117,8 +132,10 @@ loop-again c =
     let at = c .before .before .before .before .before .before .before .before .before .before .before in (
       omega (arith, t-small at),
       at .before .before .before .loop .inv .1,
-      looked-turn (sheet at) (start at .args .plan .now) (start at .args .entry .now) (start at .args .exit .now) (past at) (t at) (t-small at) (start at .pre .1) (looked at)
-          (at .before .looks-of .ensures) (at .source .ensures) (c .before .before .before .before .before .add-to .ensures) (c .before .before .add-to2 .ensures) (c .add-to3 .ensures),
+      looked-turn (sheet at) (start at .args .plan .now) (start at .args .entry .now) (start at .args .exit .now) (past at) (t at)
+          (t-small at) (start at .pre .1) (looked at)
+          (at .before .looks-of .ensures) (at .source .ensures) (c .before .before .before .before .before .add-to .ensures)
+          (c .before .before .add-to2 .ensures) (c .add-to3 .ensures),
     )
 
 returns : tie.Need-returns Inv-loop μ-loop
