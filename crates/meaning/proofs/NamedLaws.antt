@@ -11,19 +11,18 @@ use lib.ListN.{drop, getD}
 use lib.Bits.{or-zero-r, or-self}
 use borrow.Author.Tests.{eqb-true, eqb-false}
 use Rattle.sets.specs.Sets.{has, union, single, someIn}
-use Rattle.sets.proofs.Tests.{is-false, of-false, and-l, and-r, and-i, or-e, or-l, or-r, bool-ext}
-use Rattle.sets.proofs.Facts.{union-e, union-l, union-r, setOf-e, setOf-i, some-e, some-i, someIn-e, someIn-i}
-use Rattle.sets.proofs.Membership.{has-none, has-union, same-members, setOf-same, union-assoc}
+use Rattle.sets.proofs.Tests.{and-l, and-r, and-i, or-e, or-l, or-r}
+use Rattle.sets.proofs.Facts.{some-e, some-i}
+use Rattle.sets.proofs.Membership.{setOf-same, union-assoc}
 use Rattle.meaning.specs.Lists.{allOf, firstOf}
 use Rattle.meaning.specs.Sheet.{nOf, kOf, tOf, source, termCount, termKind, termValue}
-use Rattle.meaning.specs.Check.{kindOk, termOk, sheetRefusal}
-use Rattle.meaning.specs.Hierarchy.{complete, enters}
+use Rattle.meaning.specs.Check.{kindOk, termOk}
+use Rattle.meaning.specs.Hierarchy.{complete}
 use Rattle.meaning.specs.Reaction.{TickSets, isDelay, delay, holds, inFirst, alternativesFrom, alternatives, allHold, alternative, isDue, trigger, triggered, eligible, ambiguous, restless, exiting, entering, afterRound}
 use Rattle.meaning.specs.Tick.{Tick, begin, chosen, roundsFrom, tick}
 use Rattle.meaning.specs.NamedEvents.{names, NamedEvents}
-use Rattle.meaning.proofs.SheetLaws.{Sound, sound}
-use Rattle.meaning.proofs.TickLaws.{Taken, rounds-ind, chosen-member, modes-after, entered-after, active-after}
-use Rattle.meaning.proofs.Consistency.{enterTop, enters-whole, entering-i}
+use Rattle.meaning.proofs.SheetLaws.{Sound}
+use Rattle.meaning.proofs.TickLaws.{Taken, rounds-ind, modes-after, active-after}
 
 -- ---- where each term of t says the same, the same alternative holds
 
@@ -136,13 +135,13 @@ module _ (s : List ℕ) where
       (or-r (has (z .active) m) (has (entering s es) m))
       (or-e (has (z .modes) m && not (has (exiting s z es) m)) (has (entering s es) m) (subst T (modes-after s z es m) h)))
 
-  pub active-stays : (d i f : ℕ) (z : TickSets) (r m : ℕ) → T (has (z .active) m) → T (has (roundsFrom s f d i z r .sets .active) m)
+  active-stays : (d i f : ℕ) (z : TickSets) (r m : ℕ) → T (has (z .active) m) → T (has (roundsFrom s f d i z r .sets .active) m)
   active-stays d i f z r m =
       rounds-ind s d i (λ y _. T (has (y .active) m))
       (λ y _ p _. subst T (sym (active-after s y (chosen s d i y) m)) (or-l (has (y .active) m) (has (entering s (chosen s d i y)) m) p)) f z r
 
   -- a tick begins at power-on or from the set x
-  begin-by : (P : TickSets → Type 0) (x : ℕ)
+  pub begin-by : (P : TickSets → Type 0) (x : ℕ)
       → (x ≡ 0 → P (record { modes = complete s (single 0); entered = complete s (single 0); exited = 0; active = complete s (single 0); taken = 0 }))
       → ((x ≡ 0 → ⊥) → P (record { modes = x; entered = 0; exited = 0; active = x; taken = 0 }))
       → P (begin s x)
@@ -158,17 +157,12 @@ module _ (s : List ℕ) where
       go true e = f (eqb-true x 0 e)
       go false e = g (eqb-false x 0 e)
 
-  pub begin-active : (x : ℕ) → begin s x .active ≡ begin s x .modes
+  begin-active : (x : ℕ) → begin s x .active ≡ begin s x .modes
   begin-active x = begin-by (λ z. z .active ≡ z .modes) x (λ _. refl) (λ _. refl)
 
   modes-active-begin : (x : ℕ) → ModesActive (begin s x)
   unfolding ModesActive
   modes-active-begin x m h = subst (λ (y : ℕ). T (has y m)) (sym (begin-active x)) h
-
-  pub modes-active : (x d i m : ℕ) → T (has (tick s x d i .sets .modes) m) → T (has (tick s x d i .sets .active) m)
-  unfolding tick ModesActive
-  modes-active x d i =
-      rounds-ind s d i (λ z _. ModesActive z) (λ z _ p _. modes-active-step z (chosen s d i z) p) (suc (tOf s)) (begin s x) 0 (modes-active-begin x)
 
 -- ---- the rounds, and the tick
 
@@ -216,63 +210,6 @@ named-events s x d i j h = rounds-same s d i j (suc (tOf s)) (begin s x) 0 (mode
 -- ---- which modes are active in a tick
 
 module _ (s : List ℕ) where
-  -- what some transitions enter, and others
-  pub entering-union : (a b : ℕ) → entering s (union a b) ≡ union (entering s a) (entering s b)
-  unfolding entering
-  entering-union a b = same-members (λ m. bool-ext (has (entering s (union a b)) m) (has (union (entering s a) (entering s b)) m) (apart m) (together m))
-    where
-      by : ℕ → ℕ → Bool
-      by m t = has (enters s t) m
-
-      among : ℕ → ℕ → Bool
-      among es m = someIn (tOf s) es (by m)
-
-      apart : (m : ℕ) → T (has (entering s (union a b)) m) → T (has (union (entering s a) (entering s b)) m)
-      apart m h =
-          let g = setOf-e (nOf s) (among (union a b)) m h in
-          let r = someIn-e (tOf s) (union a b) (by m) (g .1) in
-          ⊎-elim
-          (λ k. union-l (entering s a) (entering s b) m (setOf-i (nOf s) (among a) m (g .0) (someIn-i (tOf s) a (by m) (r .0) (r .1) k (r .3))))
-          (λ k. union-r (entering s a) (entering s b) m (setOf-i (nOf s) (among b) m (g .0) (someIn-i (tOf s) b (by m) (r .0) (r .1) k (r .3))))
-          (union-e a b (r .0) (r .2))
-
-      more : (es : ℕ) (m : ℕ) → ((t : ℕ) → T (has es t) → T (has (union a b) t)) → T (has (entering s es) m) → T (has (entering s (union a b)) m)
-      more es m up h =
-          let g = setOf-e (nOf s) (among es) m h in
-          let r = someIn-e (tOf s) es (by m) (g .1) in
-          setOf-i (nOf s) (among (union a b)) m (g .0) (someIn-i (tOf s) (union a b) (by m) (r .0) (r .1) (up (r .0) (r .2)) (r .3))
-
-      together : (m : ℕ) → T (has (union (entering s a) (entering s b)) m) → T (has (entering s (union a b)) m)
-      together m h = ⊎-elim (more a m (union-l a b)) (more b m (union-r a b)) (union-e (entering s a) (entering s b) m h)
-
-  entering-none : entering s 0 ≡ 0
-  unfolding entering
-  entering-none =
-      same-members (λ m. is-false (has (entering s 0) m) (λ h.
-      let r = someIn-e (tOf s) 0 (λ t. has (enters s t) m) (setOf-e (nOf s) (λ k. someIn (tOf s) 0 (λ t. has (enters s t) k)) m h .1) in
-      of-false (has-none (r .0)) (r .2)) ∙ sym (has-none m))
-
-  -- those it began with, and those entered by the transitions taken
-  pub active-is : (x d i : ℕ) → tick s x d i .sets .active ≡ union (begin s x .modes) (entering s (tick s x d i .sets .taken))
-  unfolding tick
-  active-is x d i =
-      rounds-ind s d i (λ z _. z .active ≡ union x′ (entering s (z .taken))) step (suc (tOf s)) (begin s x) 0
-      (begin-by s (λ z. z .active ≡ union (z .modes) (entering s (z .taken))) x (λ _. start _) (λ _. start _))
-    where
-      x′ : ℕ
-      x′ = begin s x .modes
-
-      start : (y : ℕ) → y ≡ union y (entering s 0)
-      start y = sym (ap (union y) entering-none ∙ or-zero-r y)
-
-      step : (z : TickSets) (r : ℕ) → z .active ≡ union x′ (entering s (z .taken)) → Taken s d i z
-          → afterRound s z (chosen s d i z) .active ≡ union x′ (entering s (afterRound s z (chosen s d i z) .taken))
-      step z r e _ = unfold afterRound in (
-          ap (λ (y : ℕ). union y (entering s (chosen s d i z))) e
-          ∙ union-assoc x′ (entering s (z .taken)) (entering s (chosen s d i z))
-          ∙ ap (union x′) (sym (entering-union (z .taken) (chosen s d i z)))
-          )
-
   -- those it began with, and those entered
   pub active-entered : (x d i : ℕ) → tick s x d i .sets .active ≡ union (begin s x .modes) (tick s x d i .sets .entered)
   unfolding tick
@@ -288,22 +225,3 @@ module _ (s : List ℕ) where
       step z r e _ = unfold afterRound in (
           ap (λ (y : ℕ). union y (entering s (chosen s d i z))) e ∙ union-assoc x′ (z .entered) (entering s (chosen s d i z))
           )
-
--- every transition that is taken enters some mode: where none is entered none was taken, and the modes are those it began with
-pub entered-none : (s : List ℕ) → sheetRefusal s ≡ 0 → (x d i : ℕ) → (x ≡ 0 → ⊥) → tick s x d i .sets .entered ≡ 0 → tick s x d i .sets .modes ≡ x
-unfolding tick
-entered-none s h x d i n =
-    rounds-ind s d i (λ z _. z .entered ≡ 0 → z .modes ≡ x) step (suc (tOf s)) (begin s x) 0
-    (begin-by s (λ z. z .entered ≡ 0 → z .modes ≡ x) x (λ e _. absurd (n e)) (λ _ _. refl))
-  where
-    sd : Sound s
-    sd = sound s h
-
-    step : (z : TickSets) (r : ℕ) → (z .entered ≡ 0 → z .modes ≡ x) → Taken s d i z
-        → afterRound s z (chosen s d i z) .entered ≡ 0 → afterRound s z (chosen s d i z) .modes ≡ x
-    step z r _ taken e =
-        let es = chosen s d i z in
-        let t = chosen-member s d i z (taken .filled) in
-        let m = enterTop s (t .0) in
-        let k = entering-i s sd es (t .0) m (t .1) (t .2) (enters-whole s sd (t .0) (t .1) .top) in
-        absurd (of-false (ap (λ (y : ℕ). has y m) e ∙ has-none m) (subst T (sym (entered-after s z es m)) (or-r (has (z .entered) m) (has (entering s es) m) k)))

@@ -183,7 +183,8 @@ module _ (s : List ℕ) where
 
   abbrev pub whole : List Piece
   whole =
-      wordPiece startWord (complete s (single 0)) ∷ wordPiece eventsWord (namedAll s) ∷ wordPiece earlyWord (early s) ∷ wordPiece mixedWord (mixed s) ∷ wordPiece timersWord (timers s) ∷ classes
+      wordPiece startWord (complete s (single 0)) ∷ wordPiece eventsWord (namedAll s) ∷ wordPiece earlyWord (early s)
+      ∷ wordPiece mixedWord (mixed s) ∷ wordPiece timersWord (timers s) ∷ classes
 
   pub planned-of : {m : List ℕ} → sheetRefusal s ≡ 0 → Laid whole m → Planned s m
   planned-of h d =

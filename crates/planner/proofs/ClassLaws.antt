@@ -9,9 +9,9 @@ use native.Mathlib.Nat.{eq-zero-or-pos, lt-of-le-of-lt}
 use native.Mathlib.Omega.{arith}
 use lib.Dec.{eqb, ltb}
 use lib.ListN.{length, set}
-use borrow.Author.Tests.{eq-eqb, lt-ltb, le-ltb, not-true}
+use borrow.Author.Tests.{eq-eqb, lt-ltb, le-ltb}
 use Rattle.sets.specs.Sets.{has, union, minus, below, those}
-use Rattle.sets.proofs.Tests.{is-true, of-true, and-l}
+use Rattle.sets.proofs.Tests.{of-true}
 use Rattle.sets.proofs.Facts.{setOf-e}
 use Rattle.sets.proofs.Membership.{has-none, has-union, has-minus, has-below, below-lt, minus-le, has-setOf, setOf-ext, those-same}
 use Rattle.sets.proofs.Members.{Turn, without-it, without-other}
@@ -24,6 +24,7 @@ use Rattle.meaning.proofs.ListLaws.{rowFrom-ext}
 use Rattle.meaning.proofs.SheetLaws.{sound, n-le, source-lt}
 use Rattle.reaction.specs.Plan.{delaysPart, timers, timerDelay, eventsOnly, mixed, early}
 use Rattle.reaction.specs.Facts.{openFacts, alternativeBy}
+use Rattle.reaction.proofs.TriggerLaws.{mixed-asks}
 use Rattle.planner.specs.Parts.{WordsAt, isSure, sure}
 use Rattle.planner.proofs.PartLaws.{part-same, part-set}
 
@@ -49,13 +50,6 @@ module _ (s : List ℕ) where
 
   -- ---- those of them that are judged where a tick begins
 
-  -- a transition that is judged has no delay
-  pub mixed-asks : (t : ℕ) {x : ℕ} → x ≡ mixed s → has x t ≡ true → (t < tOf s) × (isDelay s t ≡ false)
-  unfolding mixed
-  mixed-asks t e k =
-      let r = setOf-e (tOf s) (λ u. not (isDelay s u) && not (eventsOnly s u)) t (of-true (ap (λ (y : ℕ). has y t) (sym e) ∙ k)) in
-      (r .0, not-true (isDelay s t) (is-true (not (isDelay s t)) (and-l (not (isDelay s t)) (not (eventsOnly s t)) (r .1))))
-
   -- every source is one of all modes
   pub early-is : sheetRefusal s ≡ 0 → {x r : ℕ} → x ≡ mixed s
       → r ≡ those 64 x (λ t. has (below 32) (source s t) && ltb 0 (alternativeBy s openFacts t)) → r ≡ early s
@@ -64,7 +58,7 @@ module _ (s : List ℕ) where
       q
       ∙ those-same 64 x (λ t. has (below 32) (source s t) && ltb 0 (alternativeBy s openFacts t)) (λ t. ltb 0 (alternativeBy s openFacts t))
       (λ t l k.
-      let m : source s t < 32 = omega (arith, source-lt s (sound s h) t (mixed-asks t e k .0), n-le s (sound s h)) in
+      let m : source s t < 32 = omega (arith, source-lt s (sound s h) t (mixed-asks s t e k .0), n-le s (sound s h)) in
       rw (has-below 32 (source s t), lt-ltb (source s t) 32 m))
       ∙ ap (λ (y : ℕ). those 64 y (λ t. ltb 0 (alternativeBy s openFacts t))) e
 

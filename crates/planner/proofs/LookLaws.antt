@@ -14,11 +14,11 @@ use Rattle.sets.proofs.Membership.{has-none, has-single, has-union}
 use Rattle.sets.proofs.Quantifiers.{some-false}
 use Rattle.sets.proofs.Loops.{some-or}
 use Rattle.meaning.specs.Sheet.{nOf, kOf, tOf, termCount, termKind, termValue}
-use Rattle.meaning.specs.Check.{kindOk, termOk, sheetRefusal}
+use Rattle.meaning.specs.Check.{kindOk, sheetRefusal}
 use Rattle.meaning.specs.Reaction.{isDelay}
 use Rattle.meaning.specs.NamedEvents.{names}
 use Rattle.meaning.proofs.SheetLaws.{sound, n-le, k-le, t-le}
-use Rattle.reaction.proofs.TermLaws.{mask-lt}
+use Rattle.reaction.proofs.TermLaws.{met-at, mask-lt}
 use Rattle.reaction.proofs.AboutLaws.{delay-kind}
 use Rattle.planner.specs.Looks.{onEvent, onEntry, onExit, onTaken, someTerm, LooksTo, looksEntry, looksExit, looksTaken}
 
@@ -54,23 +54,19 @@ module _ (c v m : ℕ) where
 
 module _ (s : List ℕ) (h : sheetRefusal s ≡ 0) (u : ℕ) (l : u < tOf s) where
   module _ (j : ℕ) (k : j < termCount s u) where
-    asks : (d : ℕ) → termKind s u j ≡ d → T (kindOk s u j d)
-    unfolding termOk
-    asks d e = subst (λ (c : ℕ). T (kindOk s u j c)) e (sound s h .terms u l j k)
-
     event-value : (termKind s u j ≡ 1) ⊎ (termKind s u j ≡ 2) → termValue s u j < kOf s
     unfolding kindOk
-    event-value (inl e) = ltb→lt (termValue s u j) (kOf s) (asks 1 e)
-    event-value (inr e) = ltb→lt (termValue s u j) (kOf s) (asks 2 e)
+    event-value (inl e) = ltb→lt (termValue s u j) (kOf s) (met-at s h u j l k 1 e)
+    event-value (inr e) = ltb→lt (termValue s u j) (kOf s) (met-at s h u j l k 2 e)
 
     mode-value : (termKind s u j ≡ 4) ⊎ (termKind s u j ≡ 5) → termValue s u j < nOf s
     unfolding kindOk
-    mode-value (inl e) = ltb→lt (termValue s u j) (nOf s) (asks 4 e)
-    mode-value (inr e) = ltb→lt (termValue s u j) (nOf s) (asks 5 e)
+    mode-value (inl e) = ltb→lt (termValue s u j) (nOf s) (met-at s h u j l k 4 e)
+    mode-value (inr e) = ltb→lt (termValue s u j) (nOf s) (met-at s h u j l k 5 e)
 
     taken-value : termKind s u j ≡ 6 → termValue s u j < tOf s
     unfolding kindOk
-    taken-value e = ltb→lt (termValue s u j) (tOf s) (asks 6 e)
+    taken-value e = ltb→lt (termValue s u j) (tOf s) (met-at s h u j l k 6 e)
 
     -- so of the words that are its kind and value
     module _ {c v : ℕ} (p : c ≡ termKind s u j) (q : v ≡ termValue s u j) where
@@ -83,17 +79,7 @@ module _ (s : List ℕ) (h : sheetRefusal s ≡ 0) (u : ℕ) (l : u < tOf s) whe
       pub taken-asks : c ≡ 6 → v < 64
       taken-asks e = omega (arith, q, t-le s (sound s h), taken-value (sym p ∙ e))
 
-  -- a term is about events, modes and transitions of the sheet
-  pub named-lt : (e : ℕ) → T (names s u e) → e < kOf s
-  unfolding names
-  named-lt e b =
-      let r = some-e (termCount s u) (λ j. onEvent (termKind s u j) (termValue s u j) e) b in
-      let c = termKind s u (r .0) in
-      let v = termValue s u (r .0) in
-      subst (λ (i : ℕ). i < kOf s) (eqb→eq v e (and-r (eqb c 1 || eqb c 2) (eqb v e) (r .2)))
-      (event-value (r .0) (r .1)
-      (⊎-elim (λ a. inl (eqb→eq c 1 a)) (λ a. inr (eqb→eq c 2 a)) (or-e (eqb c 1) (eqb c 2) (and-l (eqb c 1 || eqb c 2) (eqb v e) (r .2)))))
-
+  -- a term is about modes and transitions of the sheet
   pub entry-lt : (m : ℕ) → T (looksEntry s u m) → m < nOf s
   unfolding looksEntry
   entry-lt m b =

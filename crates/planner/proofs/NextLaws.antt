@@ -25,12 +25,13 @@ use Rattle.meaning.specs.Check.{sheetRefusal}
 use Rattle.meaning.specs.NamedEvents.{names}
 use Rattle.meaning.proofs.ListLaws.{row-at}
 use Rattle.meaning.proofs.SheetLaws.{sound, n-le, source-lt}
+use Rattle.meaning.proofs.NamedLaws.{names-event}
 use Rattle.hierarchy.specs.Unions.{UnionWithin}
 use Rattle.reaction.specs.Plan.{nextPart, namedPart, planSize, namedIn, namedAll}
 use Rattle.planner.specs.Parts.{WordsAt, fromOf}
 use Rattle.planner.specs.Looks.{AddedTo, LooksTo, LookedTo, EntryWords, ExitWords, looksEntry, looksExit, looksTaken, takenOf, namedOf}
 use Rattle.planner.proofs.PartLaws.{parts-are}
-use Rattle.planner.proofs.LookLaws.{named-lt, names-are, entry-is, exit-is, taken-is, taken-small}
+use Rattle.planner.proofs.LookLaws.{names-are, entry-is, exit-is, taken-is, taken-small}
 
 -- ---- a transition added to the words of a set
 
@@ -65,7 +66,8 @@ module _ (old : List ℕ) (at xs t : ℕ) where
       record {
         long = d .long;
         before = d .before;
-        words = λ k i. sym (ap (λ (r : ℕ). has (getD new (at + k) 0) i || (has r k && eqb i t)) e ∙ rw (has-none k) (or-false (has (getD new (at + k) 0) i))) ∙ d .words k i;
+        words = λ k i. sym (ap (λ (r : ℕ). has (getD new (at + k) 0) i || (has r k && eqb i t)) e ∙ rw (has-none k) (or-false (has (getD new (at + k) 0) i)))
+            ∙ d .words k i;
       }
 
   -- the words beside those of the members stay
@@ -78,7 +80,8 @@ module _ (old : List ℕ) (at xs t : ℕ) where
       go (inr l) =
           let j : at + (i - at) ≡ i = omega arith in
           let out : has xs (i - at) ≡ false = is-false (has xs (i - at)) (λ q. n l (omega (arith, h (i - at) q))) in
-          rw j at (same-members {a = getD new (at + (i - at)) 0} {b = getD old (at + (i - at)) 0} (λ b. d .words (i - at) b ∙ rw out (or-false (has (getD old (at + (i - at)) 0) b))))
+          rw j at (same-members {a = getD new (at + (i - at)) 0} {b = getD old (at + (i - at)) 0}
+          (λ b. d .words (i - at) b ∙ rw out (or-false (has (getD old (at + (i - at)) 0) b))))
 
 -- ---- the loop over the transitions
 
@@ -220,7 +223,7 @@ module _ (s : List ℕ) (h : sheetRefusal s ≡ 0) {plan₀ plan entry₀ entry 
       both (ltb e (kOf s)) (some (tOf s) p)
       (λ q.
       let r = some-e (tOf s) p q in
-      lt→ltb e (kOf s) (named-lt s h (r .0) (r .1) e (f (r .0) (r .2))))
+      lt→ltb e (kOf s) (names-event s (sound s h) (r .0) e (r .1) (f (r .0) (r .2))))
 
   pub events-done : all ≡ namedAll s
   unfolding namedAll

@@ -193,7 +193,8 @@ module _ (s : List ℕ) (h : sheetRefusal s ≡ 0) (t : ℕ) where
             let e = setOf-e (nOf s) (contains s held) (w .0) (w .2) in
             inr (inr (and-i (ltb u (tOf s)) (some (nOf s) (λ m. contains s held m && looksExit s u m)) k
             (some-i (nOf s) (λ m. contains s held m && looksExit s u m) (w .0) (e .0)
-            (and-i (contains s held (w .0)) (looksExit s u (w .0)) (e .1) (some-i (termCount s u) (λ x. onExit (termKind s u x) (termValue s u x) (w .0)) (j .0) (j .1) (w .1)))))))
+            (and-i (contains s held (w .0)) (looksExit s u (w .0)) (e .1)
+            (some-i (termCount s u) (λ x. onExit (termKind s u x) (termValue s u x) (w .0)) (j .0) (j .1) (w .1)))))))
             (λ w. inl (and-i (ltb u (tOf s)) (looksTaken s u t) k (some-i (termCount s u) (λ x. onTaken (termKind s u x) (termValue s u x) t) (j .0) (j .1) w))))
             (about-e s t (termKind s u (j .0)) (termValue s u (j .0)) (j .2))
 

@@ -12,20 +12,20 @@ use lib.Pow.{pow-mono, pow-pos}
 use borrow.Author.Tests.{ne-eqb}
 use Rattle.sets.specs.Sets.{has, union, meet, single, those}
 use Rattle.sets.proofs.Tests.{of-false}
-use Rattle.sets.proofs.Facts.{has-lt, setOf-e}
+use Rattle.sets.proofs.Facts.{has-lt}
 use Rattle.sets.proofs.Membership.{ext, has-none, has-meet, has-below, setOf-ext}
 use Rattle.sets.proofs.Those.{has-those, those-lt}
 use Rattle.sets.proofs.Quantifiers.{meets-e, meets-i}
 use Rattle.meaning.specs.Sheet.{nOf, kOf, tOf, source, termKind, termValue}
 use Rattle.meaning.specs.Check.{sheetRefusal}
 use Rattle.meaning.specs.Hierarchy.{complete}
-use Rattle.meaning.specs.Reaction.{TickSets, isDelay, isTimer, isDue, alternative, triggered}
+use Rattle.meaning.specs.Reaction.{TickSets, isTimer, isDue, alternative, triggered}
 use Rattle.meaning.specs.Tick.{begin}
 use Rattle.meaning.proofs.SheetLaws.{sound, n-le}
-use Rattle.reaction.specs.Plan.{sourcesIn, eventsOnly, hitsOf, mixed, early}
+use Rattle.reaction.specs.Plan.{sourcesIn, hitsOf, mixed, early}
 use Rattle.reaction.specs.Facts.{factsOf, openFacts, holdsBy, alternativeBy}
 use Rattle.reaction.proofs.TermLaws.{none-by, mask-lt, alternative-by}
-use Rattle.reaction.proofs.TriggerLaws.{Derived, input-lt, triggered-union}
+use Rattle.reaction.proofs.TriggerLaws.{Derived, input-lt, mixed-e, triggered-union}
 use Rattle.reaction.proofs.AboutLaws.{by-more}
 
 -- ---- what holds before anything is entered, exited or taken holds by the words `openFacts`
@@ -51,10 +51,6 @@ open-holds s i x (suc (suc (suc (suc (suc zero))))) v b l k = k
 open-holds s i x (suc (suc (suc (suc (suc (suc zero)))))) v b l k = k
 open-holds s i x (suc (suc (suc (suc (suc (suc (suc zero))))))) v b l k = k
 open-holds s i x (suc (suc (suc (suc (suc (suc (suc (suc c)))))))) v b l k = absurd (of-false (none-by s i (begun x) b c v) k)
-
-mixed-lt : (s : List ℕ) (t : ℕ) → T (has (mixed s) t) → t < tOf s
-unfolding mixed
-mixed-lt s t m = setOf-e (tOf s) (λ u. not (isDelay s u) && not (eventsOnly s u)) t m .0
 
 module _ (s : List ℕ) (h : sheetRefusal s ≡ 0) (i : ℕ) (b : i < 2 ^ 32) where
   open-some : (x t : ℕ) → t < tOf s → T (ltb 0 (alternativeBy s (factsOf i (begun x)) t)) → T (ltb 0 (alternativeBy s openFacts t))
@@ -83,7 +79,7 @@ module _ (s : List ℕ) (h : sheetRefusal s ≡ 0) (i : ℕ) (b : i < 2 ^ 32) wh
 
       known : (t : ℕ) → T (has (mixed s) t) → T (j t) → T (ltb 0 (alternativeBy s openFacts t))
       known t m k =
-          let l = mixed-lt s t m in
+          let l = mixed-e s t m .0 in
           open-some x t l (subst T (ap (ltb 0) (sym (alternative-by s i (begun x) b t h l))) k)
 
       table : (a m o c : Bool) → (T m → T c → T o) → ((a && m) && c) ≡ ((a && (m && o)) && c)
@@ -126,7 +122,8 @@ module _ (s : List ℕ) (h : sheetRefusal s ≡ 0) where
 
   pub first-power-on : (i : ℕ) → i < 2 ^ kOf s
       → triggered s 0 i (begin s 0)
-      ≡ union (meet (sourcesIn s (complete s (single 0))) (hitsOf s i)) (those 64 (meet (sourcesIn s (complete s (single 0))) (mixed s)) (λ t. ltb 0 (alternative s i (begin s 0) t)))
+      ≡ union (meet (sourcesIn s (complete s (single 0))) (hitsOf s i))
+      (those 64 (meet (sourcesIn s (complete s (single 0))) (mixed s)) (λ t. ltb 0 (alternative s i (begin s 0) t)))
   unfolding begin
   first-power-on i b =
       sym (triggered-union s h (begin s 0) live 0 derived i b)
@@ -139,6 +136,7 @@ module _ (s : List ℕ) (h : sheetRefusal s ≡ 0) where
       derived =
           record {
             sources = refl;
-            fresh = unfold isDue in (setOf-ext (tOf s) (isDue s 0 (begin s 0)) (pow-pos (tOf s)) (λ t l. has-none t ∙ sym (ap (λ (c : Bool). c && not (has (begin s 0 .entered) (source s t))) (has-none t))));
+            fresh = unfold isDue in (setOf-ext (tOf s) (isDue s 0 (begin s 0)) (pow-pos (tOf s))
+                (λ t l. has-none t ∙ sym (ap (λ (c : Bool). c && not (has (begin s 0 .entered) (source s t))) (has-none t))));
             timing = λ t k. absurd (of-false (has-none t) k);
           }

@@ -168,8 +168,10 @@ module _ (s : List ℕ) (h : sheetRefusal s ≡ 0) (d d′ i : ℕ) (z : TickSet
           before : T (has (z .modes) m) → T (has (triggered s d i z) u)
           before on =
               setOf-i (tOf s) (λ v. ltb 0 (trigger s d i z v)) u l
-              (trigger-before (has (z .modes) m) (has (z′ .modes) m) (isDelay s u) (eqb (delay s u) 0) (isDue s d z u) (isDue s d′ z′ u) (alternative s i z u) (alternative s i z′ u)
-              on (due-before u) (subst T (woken-same s h i small z es (chosen-lt s d i z) u l (λ t p w. of-false e (next-woken s h es u l t (chosen-lt s d i z t p) p w)))) k)
+              (trigger-before (has (z .modes) m) (has (z′ .modes) m) (isDelay s u) (eqb (delay s u) 0) (isDue s d z u) (isDue s d′ z′ u)
+              (alternative s i z u) (alternative s i z′ u)
+              on (due-before u) (subst T (woken-same s h i small z es (chosen-lt s d i z) u l
+              (λ t p w. of-false e (next-woken s h es u l t (chosen-lt s d i z t p) p w)))) k)
 
           stayed : T (has (z .modes) m && not (has (exiting s z es) m)) → ⊥
           stayed q =
@@ -192,7 +194,8 @@ module _ (s : List ℕ) (h : sheetRefusal s ≡ 0) (d d′ i : ℕ) (z : TickSet
       (has-those 64 (meet next (mixed s)) judge u (lt-of-lt-of-le l (t-le s (sound s h)))
       ∙ ap (λ (x : Bool). x && judge u) (has-meet next (mixed s) u ∙ ap₂ _&&_ next-is (has-setOf (tOf s) _ u l)))
       ∙ next-cases (isNext s es u) (has (entering s es) (source s u)) (has (z′ .modes) (source s u)) (isDelay s u) (eqb (delay s u) 0) (isDue s d′ z′ u) (eventsOnly s u)
-      (alternative s i z′ u) (alternative s i noSets u) (entered-on u) (entered-not-due u) (next-plain s h es u l) (events-alone s i noSets z′ u small h l) (triggered-next u l)
+      (alternative s i z′ u) (alternative s i noSets u) (entered-on u) (entered-not-due u) (next-plain s h es u l) (events-alone s i noSets z′ u small h l)
+      (triggered-next u l)
 
   pub next-triggered : triggered s d′ i z′ ≡ union (meet (nextIn s es) (hitsOf s i)) (those 64 (meet (nextIn s es) (mixed s)) judge)
   unfolding triggered

@@ -6,12 +6,12 @@ use mathlib.Core.List.{List}
 use Prim.Native.Nat.{ℕ, _+_, _%_, _^_, _<_}
 use native.Mathlib.Nat.{lt-of-le-of-lt, lt-of-lt-of-le, mod-eq-of-lt, pow-le-pow-right}
 use native.Mathlib.Omega.{arith}
-use lib.Dec.{T, eqb→eq, eqb-refl}
+use lib.Dec.{T}
 use lib.ListN.{getD}
 use Rattle.sets.specs.Sets.{has, meet, single, some, someIn}
 use Rattle.sets.proofs.Tests.{bool-ext, and-l, and-r, and-i}
-use Rattle.sets.proofs.Facts.{has-lt, setOf-e, setOf-i, some-e, some-i, someIn-e, someIn-i}
-use Rattle.sets.proofs.Membership.{has-meet, has-single, has-setOf, setOf-lt, setOf-ext, same-members, meet-le}
+use Rattle.sets.proofs.Facts.{has-lt, single-e, single-i, setOf-e, setOf-i, some-e, some-i, someIn-e, someIn-i}
+use Rattle.sets.proofs.Membership.{has-meet, has-setOf, setOf-lt, setOf-ext, same-members, meet-le}
 use Rattle.sets.proofs.Quantifiers.{someIn-same}
 use Rattle.meaning.specs.Sheet.{nOf, kOf, tOf, source}
 use Rattle.meaning.specs.Hierarchy.{completedIn, complete}
@@ -40,14 +40,22 @@ module _ (s : List ℕ) where
       setOf-ext (tOf s) (λ t. isTimer s t && has x (source s t)) (lt-of-le-of-lt (meet-le (sourcesIn s x) (timers s)) (sourcesIn-lt x))
       (λ t l. has-meet (sourcesIn s x) (timers s) t ∙ ap₂ _&&_ (has-sourcesIn x t l) (has-setOf (tOf s) (isTimer s) t l) ∙ and-comm (has x (source s t)) (isTimer s t))
 
+  -- the events that transitions with a source in x name
+  pub named-e : (x e : ℕ) → T (has (namedIn s x) e) → (e < kOf s) × ((t : ℕ) × (t < tOf s) × T (has x (source s t)) × T (names s t e))
+  unfolding namedIn
+  named-e x e h =
+      let p = setOf-e (kOf s) (λ u. some (tOf s) (λ v. has x (source s v) && names s v u)) e h in
+      let q = some-e (tOf s) (λ v. has x (source s v) && names s v e) (p .1) in
+      let t = q .0 in
+      (p .0, (t, q .1, and-l (has x (source s t)) (names s t e) (q .2), and-r (has x (source s t)) (names s t e) (q .2)))
+
+  pub named-i : (x t e : ℕ) → e < kOf s → t < tOf s → T (has x (source s t)) → T (names s t e) → T (has (namedIn s x) e)
+  unfolding namedIn
+  named-i x t e k l on h =
+      setOf-i (kOf s) (λ u. some (tOf s) (λ v. has x (source s v) && names s v u)) e k
+      (some-i (tOf s) (λ v. has x (source s v) && names s v e) t l (and-i (has x (source s t)) (names s t e) on h))
+
 -- ---- unions of words of the plan over the members of a mode set
-
--- a mode in a set of one
-one-e : (m i : ℕ) → T (has (single m) i) → i ≡ m
-one-e m i k = eqb→eq i m (subst T (has-single m i) k)
-
-one-i : (m : ℕ) → T (has (single m) m)
-one-i m = subst T (sym (has-single m m)) (eqb-refl m)
 
 module _ (s plan : List ℕ) (p : Planned s plan) (x : ℕ) (b : x < 2 ^ 32) where
   -- the words of a part, each right, over the members of x
@@ -70,48 +78,34 @@ module _ (s plan : List ℕ) (p : Planned s plan) (x : ℕ) (b : x < 2 ^ 32) whe
           forth k =
               let r = someIn-e 32 x (λ m. has (sourcesIn s (single m)) t) k in
               let a = setOf-e (tOf s) (on (single (r .0))) t (r .3) in
-              setOf-i (tOf s) (on x) t (a .0) (subst (λ (m : ℕ). T (has x m)) (sym (one-e (r .0) (source s t) (a .1))) (r .2))
+              setOf-i (tOf s) (on x) t (a .0) (subst (λ (m : ℕ). T (has x m)) (sym (single-e (r .0) (source s t) (a .1))) (r .2))
 
           back : T (has (sourcesIn s x) t) → T (someIn 32 x (λ m. has (sourcesIn s (single m)) t))
           back k =
               let a = setOf-e (tOf s) (on x) t k in
               someIn-i 32 x (λ m. has (sourcesIn s (single m)) t) (source s t) (has-lt 32 x (source s t) b (a .1)) (a .1)
-              (setOf-i (tOf s) (on (single (source s t))) t (a .0) (one-i (source s t)))
+              (setOf-i (tOf s) (on (single (source s t))) t (a .0) (single-i (source s t)))
 
   pub named-words : {r : ℕ} → ((i : ℕ) → has r i ≡ someIn 32 x (λ m. has (getD plan (namedPart + m) 0) i)) → r ≡ namedIn s x
-  unfolding namedIn
   named-words {r} h = same-members (λ e. h e ∙ over-words namedPart (λ m. namedIn s (single m)) e (p .namedAt) ∙ named e)
     where
       named : (e : ℕ) → someIn 32 x (λ m. has (namedIn s (single m)) e) ≡ has (namedIn s x) e
       named e = bool-ext (someIn 32 x (λ m. has (namedIn s (single m)) e)) (has (namedIn s x) e) forth back
         where
-          by : ℕ → ℕ → Bool
-          by y u = has y (source s u) && names s u e
-
-          at : ℕ → ℕ → Bool
-          at y v = some (tOf s) (λ u. has y (source s u) && names s u v)
-
           forth : T (someIn 32 x (λ m. has (namedIn s (single m)) e)) → T (has (namedIn s x) e)
           forth k =
               let r = someIn-e 32 x (λ m. has (namedIn s (single m)) e) k in
-              let a = setOf-e (kOf s) (at (single (r .0))) e (r .3) in
-              let u = some-e (tOf s) (by (single (r .0))) (a .1) in
-              let m = source s (u .0) in
-              setOf-i (kOf s) (at x) e (a .0)
-              (some-i (tOf s) (by x) (u .0) (u .1)
-              (and-i (has x m) (names s (u .0) e)
-              (subst (λ (i : ℕ). T (has x i)) (sym (one-e (r .0) m (and-l (has (single (r .0)) m) (names s (u .0) e) (u .2)))) (r .2))
-              (and-r (has (single (r .0)) m) (names s (u .0) e) (u .2))))
+              let a = named-e s (single (r .0)) e (r .3) in
+              let u = a .1 .0 in
+              named-i s x u e (a .0) (a .1 .1) (subst (λ (m : ℕ). T (has x m)) (sym (single-e (r .0) (source s u) (a .1 .2))) (r .2)) (a .1 .3)
 
           back : T (has (namedIn s x) e) → T (someIn 32 x (λ m. has (namedIn s (single m)) e))
           back k =
-              let a = setOf-e (kOf s) (at x) e k in
-              let u = some-e (tOf s) (by x) (a .1) in
-              let m = source s (u .0) in
-              let on = and-l (has x m) (names s (u .0) e) (u .2) in
-              someIn-i 32 x (λ i. has (namedIn s (single i)) e) m (has-lt 32 x m b on) on
-              (setOf-i (kOf s) (at (single m)) e (a .0)
-              (some-i (tOf s) (by (single m)) (u .0) (u .1) (and-i (has (single m) m) (names s (u .0) e) (one-i m) (and-r (has x m) (names s (u .0) e) (u .2)))))
+              let a = named-e s x e k in
+              let u = a .1 .0 in
+              let m = source s u in
+              someIn-i 32 x (λ i. has (namedIn s (single i)) e) m (has-lt 32 x m b (a .1 .2)) (a .1 .2)
+              (named-i s (single m) u e (a .0) (a .1 .1) (single-i m) (a .1 .3))
 
 -- the word of the root completed is a mode set
 pub start-word : (s plan : List ℕ) → Planned s plan → getD plan startWord 0 % 2 ^ 32 ≡ complete s (single 0)

@@ -1,7 +1,7 @@
 -- The loop over the rounds of a tick that began in the modes `begun`, those of them `entered`, with the triggered transitions `first`, on
 -- the input i: what is left of the rounds gives what all give. Assumes nothing.
-use mathlib.Core.Path.{_≡_, refl, sym, ap, ap₂, _∙_, subst}
-use mathlib.Core.Bool.{Bool, true, false, _&&_, cond}
+use mathlib.Core.Path.{_≡_, sym, ap, ap₂, _∙_, subst}
+use mathlib.Core.Bool.{true, false, _&&_, cond}
 use mathlib.Core.List.{List}
 use Prim.Native.Nat.{ℕ, suc, _+_, _-_, _*_, _/_, _%_, _^_, _≤_, _<_}
 use native.Mathlib.Nat.{sub-zero, lt-of-lt-of-le}
@@ -9,8 +9,8 @@ use native.Mathlib.Numerals.{add-one}
 use native.Mathlib.Omega.{arith}
 use lib.Dec.{T, eqb, ltb}
 use lib.Pow.{pow-mono}
-use borrow.Author.Tests.{eq-eqb, ne-eqb}
-use Rattle.sets.specs.Sets.{has, union, meet, meets, setOf, those, someIn}
+use borrow.Author.Tests.{ne-eqb}
+use Rattle.sets.specs.Sets.{has, union, meet, meets, those}
 use Rattle.sets.proofs.Tests.{is-false, of-false}
 use Rattle.sets.proofs.Membership.{has-none, same-members, setOf-lt, union-lt}
 use Rattle.meaning.specs.Sheet.{nOf, kOf, tOf, source}
@@ -26,7 +26,7 @@ use Rattle.meaning.proofs.GivesWayLaws.{eligible-among, eligible-exists}
 use Rattle.meaning.proofs.TickLaws.{Taken, triggered-lt}
 use Rattle.meaning.proofs.Consistency.{consistent-after}
 use Rattle.reaction.specs.Plan.{hitsOf, mixed}
-use Rattle.reaction.specs.Rounds.{setsOf, tickOf, endedSo, firstSets, afterEnds, nextIn, MovesOf, RoundOf, roundsBy, Begun}
+use Rattle.reaction.specs.Rounds.{setsOf, tickOf, endedSo, firstSets, afterEnds, nextIn, RoundOf, roundsBy, Begun}
 use Rattle.reaction.specs.declared.tick.Sets.{Sets}
 use Rattle.reaction.specs.declared.tick.Ticked.{Ticked}
 use Rattle.reaction.specs.declared.tick.Round.{Round}
@@ -163,7 +163,8 @@ module _ {s : List ℕ} {begun entered first i : ℕ} {z : Sets} {ts r : ℕ} (l
             record {
               within = omega (arith, w);
               narrow = union-lt 32 (l .narrow) (rw (c .moves .enters) (lt-of-lt-of-le entering-lt (pow-mono (n-le s (sound s h)))));
-              known = subst (λ (y : TickSets). T (consistent s (y .modes))) (sym after-chosen) (consistent-after s (sound s h) (l .due) i (setsOf begun z) (l .known) taken);
+              known = subst (λ (y : TickSets). T (consistent s (y .modes))) (sym after-chosen)
+                  (consistent-after s (sound s h) (l .due) i (setsOf begun z) (l .known) taken);
               due = 0;
               triggers = e ∙ triggers-next;
               same =

@@ -1,16 +1,16 @@
 -- What a tick begins with, by the words of the plan, and the tick from there on. Assumes nothing.
 use mathlib.Core.Path.{_≡_, refl, sym, ap, ap₂, _∙_, subst}
-use mathlib.Core.Bool.{Bool, true, false, _&&_, _||_, cond}
+use mathlib.Core.Bool.{Bool, true, false, _&&_, cond}
 use mathlib.Core.List.{List}
 use Prim.Native.Nat.{ℕ, suc, _%_, _^_, _<_}
 use lib.Dec.{T, eqb, ltb}
-use lib.Bits.{or-zero-l, or-zero-r}
+use lib.Bits.{or-zero-l, or-zero-r, or-self}
 use lib.ListN.{getD}
 use borrow.Author.Tests.{eqb-true, eqb-false, ne-eqb}
 use Rattle.sets.specs.Sets.{has, union, meet, single, those}
-use Rattle.sets.proofs.Tests.{is-true, of-true, and-l, and-r, and-i}
-use Rattle.sets.proofs.Facts.{those-e}
-use Rattle.sets.proofs.Membership.{has-meet, same-members, has-union, those-same}
+use Rattle.sets.proofs.Tests.{is-true, of-true}
+use Rattle.sets.proofs.Facts.{meet-e, those-e}
+use Rattle.sets.proofs.Membership.{those-same}
 use Rattle.meaning.specs.Sheet.{kOf, tOf, source}
 use Rattle.meaning.specs.Check.{sheetRefusal}
 use Rattle.meaning.specs.Hierarchy.{complete, consistent}
@@ -18,13 +18,14 @@ use Rattle.meaning.specs.Reaction.{TickSets, isDelay, alternative, triggered}
 use Rattle.meaning.specs.Tick.{Tick, begin, tick}
 use Rattle.meaning.proofs.SheetLaws.{sound}
 use Rattle.meaning.proofs.Consistency.{begin-consistent}
+use Rattle.meaning.proofs.NamedLaws.{begin-by}
 use Rattle.reaction.specs.Plan.{mixedWord, earlyWord, startWord, Planned, sourcesIn, hitsOf, mixed, early}
 use Rattle.reaction.specs.Facts.{openFacts, alternativeBy}
 use Rattle.reaction.specs.Rounds.{setsOf, firstSets, roundsBy, StartOf, Before, Begun}
 use Rattle.reaction.specs.declared.tick.Start.{Start}
 use Rattle.reaction.proofs.PlanLaws.{start-word, sources-on}
-use Rattle.reaction.proofs.TriggerLaws.{mixed-asks}
-use Rattle.reaction.proofs.EarlyLaws.{begun, begins, first-triggered, first-power-on}
+use Rattle.reaction.proofs.TriggerLaws.{mixed-e}
+use Rattle.reaction.proofs.EarlyLaws.{begins, first-triggered, first-power-on}
 use Rattle.reaction.proofs.NextLaws.{rounds-by}
 
 -- ---- by the words of the plan
@@ -52,38 +53,20 @@ module _ (s plan : List ℕ) (p : Planned s plan) {x live : ℕ} where
 abbrev pub startSets : Start → TickSets
 startSets b = setsOf (b .begun) (firstSets (b .begun) (b .entered))
 
-union-self : (a : ℕ) → union a a ≡ a
-union-self a = same-members (λ i. has-union a a i ∙ go (has a i))
-  where
-    go : (b : Bool) → (b || b) ≡ b
-    go true = refl
-    go false = refl
-
--- at power-on, and else
-pub begin-cases : (s : List ℕ) (P : ℕ → TickSets → Type 0)
-    → (let y = complete s (single 0) in P 0 (record { modes = y; entered = y; exited = 0; active = y; taken = 0 }))
-    → ((x : ℕ) → (x ≡ 0 → ⊥) → P x (begun x)) → (x : ℕ) → P x (begin s x)
-unfolding begin
-begin-cases s P a b x = go (eqb x 0) refl
-  where
-    go : (c : Bool) → eqb x 0 ≡ c → P x (begin s x)
-    go true e = subst (λ (y : ℕ). P y (begin s y)) (sym (eqb-true x 0 e)) a
-    go false e = subst (P x) (begins s x (eqb-false x 0 e)) (b x (eqb-false x 0 e))
-
 module _ (s : List ℕ) {x : ℕ} {b : Start} (h : StartOf s x b) where
   -- what was entered is among the modes
   pub begun-whole : union (b .begun) (b .entered) ≡ b .begun
   begun-whole =
       ap₂ union (h .begun) (h .entered)
-      ∙ begin-cases s (λ y z. union (z .modes) (z .entered) ≡ z .modes) (union-self (complete s (single 0))) (λ y n. or-zero-r y) x
+      ∙ begin-by s (λ z. union (z .modes) (z .entered) ≡ z .modes) x (λ _. or-self (complete s (single 0))) (λ _. or-zero-r x)
       ∙ sym (h .begun)
 
   pub start-sets : startSets b ≡ begin s x
   start-sets =
       ap₂ (λ (y e : ℕ). setsOf y (firstSets y e)) (h .begun) (h .entered)
-      ∙ begin-cases s (λ y z. setsOf (z .modes) (firstSets (z .modes) (z .entered)) ≡ z)
-      (ap (λ (a : ℕ). record { modes = complete s (single 0); entered = complete s (single 0); exited = 0; active = a; taken = 0 }) (union-self (complete s (single 0))))
-      (λ y n. ap (λ (a : ℕ). record { modes = y; entered = 0; exited = 0; active = a; taken = 0 }) (or-zero-r y)) x
+      ∙ begin-by s (λ z. setsOf (z .modes) (firstSets (z .modes) (z .entered)) ≡ z) x
+      (λ _. let y = complete s (single 0) in ap (λ (a : ℕ). record { modes = y; entered = y; exited = 0; active = a; taken = 0 }) (or-self y))
+      (λ _. ap (λ (a : ℕ). record { modes = x; entered = 0; exited = 0; active = a; taken = 0 }) (or-zero-r x))
 
 early-mixed : (s : List ℕ) (t : ℕ) → T (has (early s) t) → T (has (mixed s) t)
 unfolding early
@@ -94,21 +77,18 @@ pub unsure-asks : (s : List ℕ) {b : Start} {due : ℕ} → Before s b due → 
 unsure-asks s {b} o t m = go (eqb (o .set) 0) (sym (ap (λ (x : ℕ). has x t) (o .start .unsure)) ∙ m)
   where
     go : (c : Bool) → has (meet (b .live) (cond c (mixed s) (early s))) t ≡ true → (t < tOf s) × (isDelay s t ≡ false)
-    go true k = mixed-asks s (b .live) t k
-    go false k =
-        let m = subst T (has-meet (b .live) (early s) t) (of-true k) in
-        mixed-asks s (b .live) t
-        (has-meet (b .live) (mixed s) t
-        ∙ is-true (has (b .live) t && has (mixed s) t) (and-i (has (b .live) t) (has (mixed s) t) (and-l (has (b .live) t) (has (early s) t) m) (early-mixed s t (and-r (has (b .live) t) (has (early s) t) m))))
+    go true k = mixed-e s t (meet-e (b .live) (mixed s) t (of-true k) .1)
+    go false k = mixed-e s t (early-mixed s t (meet-e (b .live) (early s) t (of-true k) .1))
 
 -- ---- what is triggered first, and the tick
 
 module _ (s : List ℕ) (h : sheetRefusal s ≡ 0) {b : Start} {due i : ℕ} (o : Before s b due) (v : i < 2 ^ kOf s) where
   -- of those whose source is a mode in which the tick begins
-  live-judged : (a : ℕ) (q : ℕ → Bool) → those 64 (meet (sourcesIn s (b .begun)) a) (λ t. has (b .begun) (source s t) && q t) ≡ those 64 (meet (sourcesIn s (b .begun)) a) q
+  live-judged : (a : ℕ) (q : ℕ → Bool) → those 64 (meet (sourcesIn s (b .begun)) a) (λ t. has (b .begun) (source s t) && q t)
+      ≡ those 64 (meet (sourcesIn s (b .begun)) a) q
   live-judged a q =
       those-same 64 (meet (sourcesIn s (b .begun)) a) (λ t. has (b .begun) (source s t) && q t) q (λ t l m.
-      ap (λ (c : Bool). c && q t) (is-true (has (b .begun) (source s t)) (sources-on s (b .begun) t (and-l (has (sourcesIn s (b .begun)) t) (has a t) (of-true (sym (has-meet (sourcesIn s (b .begun)) a t) ∙ m))))))
+      ap (λ (c : Bool). c && q t) (is-true (has (b .begun) (source s t)) (sources-on s (b .begun) t (meet-e (sourcesIn s (b .begun)) a t (of-true m) .0))))
 
   -- what is triggered with the modes y, the due timers d and the sets z, where those of a are judged
   abbrev by : ℕ → ℕ → ℕ → TickSets → ℕ
@@ -117,7 +97,8 @@ module _ (s : List ℕ) (h : sheetRefusal s ≡ 0) {b : Start} {due i : ℕ} (o 
   at-power-on : by (begin s 0 .modes) 0 (mixed s) (begin s 0) ≡ triggered s 0 i (begin s 0)
   unfolding begin
   at-power-on =
-      ap (λ (x : ℕ). union (meet (sourcesIn s (complete s (single 0))) x) (those 64 (meet (sourcesIn s (complete s (single 0))) (mixed s)) (λ t. ltb 0 (alternative s i (begin s 0) t))))
+      ap (λ (x : ℕ). union (meet (sourcesIn s (complete s (single 0))) x)
+      (those 64 (meet (sourcesIn s (complete s (single 0))) (mixed s)) (λ t. ltb 0 (alternative s i (begin s 0) t))))
       (or-zero-l (hitsOf s i))
       ∙ sym (first-power-on s h i v)
 

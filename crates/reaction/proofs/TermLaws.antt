@@ -53,7 +53,7 @@ kind-event c h n =
     (or-e (eqb c 1 || eqb c 2) (eqb c 7) h)
 
 module _ (s : List ℕ) (h : sheetRefusal s ≡ 0) (t j : ℕ) (l : t < tOf s) (k : j < termCount s t) where
-  met-at : (d : ℕ) → termKind s t j ≡ d → T (kindOk s t j d)
+  pub met-at : (d : ℕ) → termKind s t j ≡ d → T (kindOk s t j d)
   unfolding termOk
   met-at d e = subst (λ (c : ℕ). T (kindOk s t j c)) e (sound s h .terms t l j k)
 

@@ -8,7 +8,7 @@ use native.Mathlib.Omega.{arith}
 use lib.Dec.{T, eqb, ltb}
 use borrow.Author.Tests.{not-true}
 use Rattle.sets.specs.Sets.{has, union, meet, setOf, those}
-use Rattle.sets.proofs.Tests.{is-true, is-false, of-true, of-false, and-l, and-r}
+use Rattle.sets.proofs.Tests.{is-true, is-false, of-true, of-false, and-l}
 use Rattle.sets.proofs.Facts.{setOf-e}
 use Rattle.sets.proofs.Membership.{has-union, has-meet, has-setOf, setOf-ext, union-lt, meet-le}
 use Rattle.sets.proofs.Those.{has-those, those-part-lt}
@@ -41,11 +41,15 @@ module _ (s : List ℕ) where
   input-lt i h l = lt-of-lt-of-le l (pow-le-pow-right {n = 2} (omega arith) (k-le s (sound s h)))
 
   -- what is judged are transitions, and no delays
-  pub mixed-asks : (x t : ℕ) → has (meet x (mixed s)) t ≡ true → (t < tOf s) × (isDelay s t ≡ false)
+  pub mixed-e : (t : ℕ) → T (has (mixed s) t) → (t < tOf s) × (isDelay s t ≡ false)
   unfolding mixed
-  mixed-asks x t e =
-      let k = setOf-e (tOf s) (λ u. not (isDelay s u) && not (eventsOnly s u)) t (and-r (has x t) (has (mixed s) t) (of-true (sym (has-meet x (mixed s) t) ∙ e))) in
+  mixed-e t h =
+      let k = setOf-e (tOf s) (λ u. not (isDelay s u) && not (eventsOnly s u)) t h in
       (k .0, not-true (isDelay s t) (is-true (not (isDelay s t)) (and-l (not (isDelay s t)) (not (eventsOnly s t)) (k .1))))
+
+  -- so of a word that is theirs
+  pub mixed-asks : (t : ℕ) {x : ℕ} → x ≡ mixed s → has x t ≡ true → (t < tOf s) × (isDelay s t ≡ false)
+  mixed-asks t e k = mixed-e t (of-true (ap (λ (y : ℕ). has y t) (sym e) ∙ k))
 
 -- the transitions whose source is a current mode, and due timers of which none's source was entered
 pub record Derived (s : List ℕ) (z : TickSets) (live due : ℕ) : Type 0 where

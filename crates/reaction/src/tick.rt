@@ -184,7 +184,8 @@ fn ended(refusal: Refusal, z: Sets, rounds: u32) -> Ticked
 }
 
 // All rounds of a tick from its first triggered transitions on: each takes a transition not taken before, so T and one look are
-// enough. A round exits the sources of all that were triggered, so what is triggered next gained its source or a term.
+// enough. A round exits the sources of all that were triggered, so of each triggered next the source was entered or a term is about
+// what the round did.
 pub fn rounds(
     sheet: &[u32],
     plan: &Plan,

@@ -153,7 +153,8 @@ returns c =
     (lay-word startWord (omega arith) (c .start .ensures)
     (lay-word eventsWord (omega arith) (f .before .before .before .before .before .before .before .put-next .ensures .0)
     (lay-word earlyWord (omega arith) (c .before .before .early .ensures)
-    (lay-word mixedWord (omega arith) (c .before .before .before .mixed .ensures) (lay-word timersWord (omega arith) (by-hits f .classes-of .ensures .0) (laid-hits f))))))
+    (lay-word mixedWord (omega arith) (c .before .before .before .mixed .ensures)
+    (lay-word timersWord (omega arith) (by-hits f .classes-of .ensures .0) (laid-hits f))))))
 
 pub put-plan-spec : {M : Type 1} → statement M
 put-plan-spec =

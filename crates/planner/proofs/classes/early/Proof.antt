@@ -1,5 +1,6 @@
 -- `planner::classes::early` meets its contract. Assumes nothing.
-use Rattle.planner.proofs.ClassLaws.{mixed-asks, early-is}
+use Rattle.reaction.proofs.TriggerLaws.{mixed-asks}
+use Rattle.planner.proofs.ClassLaws.{early-is}
 use Rattle.planner.proofs.classes.early.Statement.{statement}
 use Rattle.planner.proofs.classes.early.Tie as tie
 

@@ -65,8 +65,11 @@ loop-again c =
     let at = c .before .before in
     let l = at .before .before .before .loop in
     let b = at .before .before .before .before .before in
-    let u = known at (c .without-lowest .ensures) in
-    (u .fits, subset-turn _ u (l .inv .1), added-turn (b .args .words .now) (b .args .at) (b .args .set) (b .args .t) (l .inv .2) u (room-now at) (at .before .single .ensures) refl)
+    let u = known at (c .without-lowest .ensures) in (
+      u .fits,
+      subset-turn _ u (l .inv .1),
+      added-turn (b .args .words .now) (b .args .at) (b .args .set) (b .args .t) (l .inv .2) u (room-now at) (at .before .single .ensures) refl,
+    )
 
 same-length : tie.Need-same-length Inv-loop μ-loop
 same-length c = c .before .loop .inv .2 .long

@@ -65,11 +65,14 @@ module _ (c : tie.After-lowest Inv-loop μ-loop) where
 
   ends : getD (c .before .before .before .before .before .before .loop .plan) (endsPart + t) 0 ≡ endsOf sheet t
   ends =
-      beside-stays (start .args .plan .now) nextPart t (nextOf sheet) (c .before .before .before .before .before .before .loop .inv .2) (omega arith) endsPart (tOf sheet) (endsOf sheet)
+      beside-stays (start .args .plan .now) nextPart t (nextOf sheet) (c .before .before .before .before .before .before .loop .inv .2)
+      (omega arith) endsPart (tOf sheet) (endsOf sheet)
       (inl (omega arith)) (start .pre .2) t t-small
 
   top-lt : c .lowest .result < 32
-  top-lt = held-lt sheet (start .pre .0) t t-small (top-is sheet (start .pre .0) t t-small (exits-read sheet (start .pre .0) t ends (c .before .mode-set .ensures)) (c .lowest .ensures))
+  top-lt =
+      held-lt sheet (start .pre .0) t t-small
+      (top-is sheet (start .pre .0) t t-small (exits-read sheet (start .pre .0) t ends (c .before .mode-set .ensures)) (c .lowest .ensures))
 
 mul-plan : tie.Need-mul-plan Inv-loop μ-loop
 mul-plan c = omega (arith, top-lt (c .before .before))
@@ -105,7 +108,8 @@ loop-again c =
     let top = top-is s h (t at) (t-small at) (exits-read s h (t at) (ends at) (at .before .mode-set .ensures)) (at .lowest .ensures) in
     let into = enters-read s h (t at) (ends at) (at .before .before .before .entered-modes .ensures) in
     let old : getD (l .plan) (nextPart + t at) 0 ≡ takenOf s (t at) =
-    ap (λ (m : List ℕ). getD m (nextPart + t at) 0) (l .inv .2) ∙ part-out (b .args .plan .now) nextPart (t at) (nextOf s) (omega arith) (nextPart + t at) (λ x y. omega arith)
+    ap (λ (m : List ℕ). getD m (nextPart + t at) 0) (l .inv .2)
+    ∙ part-out (b .args .plan .now) nextPart (t at) (nextOf s) (omega arith) (nextPart + t at) (λ x y. omega arith)
     ∙ b .pre .3 (t at) (t-small at) in (
       omega (arith, t-small at),
       l .inv .1,

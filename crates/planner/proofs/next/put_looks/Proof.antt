@@ -70,8 +70,8 @@ module _ (c : tie.After-source Inv-loop μ-loop) where
   mode : c .source .result < 32
   mode = omega (arith, n-le sheet (sound sheet past), source-lt sheet (sound sheet past) t t-small, c .source .ensures)
 
-  abbrev looked : LookedTo sheet t (start .args .plan .now) (c .before .before .before .before .before .loop .plan) (start .args .entry .now) (c .before .before .before .before .before .loop .entry) (start .args .exit .now)
-      (c .before .before .before .before .before .loop .exit) (c .before .before .before .before .before .loop .all)
+  abbrev looked : let l = c .before .before .before .before .before .loop in
+      LookedTo sheet t (start .args .plan .now) (l .plan) (start .args .entry .now) (l .entry) (start .args .exit .now) (l .exit) (l .all)
   looked = c .before .before .before .before .before .loop .inv .2
 
 add-plan : tie.Need-add-plan Inv-loop μ-loop
@@ -91,16 +91,30 @@ cast-add-to c = search needs
 
 add-to-requires : tie.Need-add-to-requires Inv-loop μ-loop
 add-to-requires c κs =
-    let at = c .before .before .before .before .before in
-    (below at, λ k q. omega (arith, entry-small (sheet at) (past at) (t at) (t-small at) (at .before .looks-of .ensures) k (of-true q), looked at .entryLong, start at .pre .2))
+    let at = c .before .before .before .before .before in (
+      below at,
+      λ k q. omega (
+        arith,
+        entry-small (sheet at) (past at) (t at) (t-small at) (at .before .looks-of .ensures) k (of-true q),
+        looked at .entryLong,
+        start at .pre .2,
+      ),
+    )
 
 cast-add-to-2 : tie.Need-cast-add-to-2 Inv-loop μ-loop
 cast-add-to-2 c = search needs
 
 add-to-requires-2 : tie.Need-add-to-requires-2 Inv-loop μ-loop
 add-to-requires-2 c κs =
-    let at = c .before .before .before .before .before .before .before .before in
-    (below at, λ k q. omega (arith, exit-small (sheet at) (past at) (t at) (t-small at) (at .before .looks-of .ensures) k (of-true q), looked at .exitLong, start at .pre .3))
+    let at = c .before .before .before .before .before .before .before .before in (
+      below at,
+      λ k q. omega (
+        arith,
+        exit-small (sheet at) (past at) (t at) (t-small at) (at .before .looks-of .ensures) k (of-true q),
+        looked at .exitLong,
+        start at .pre .3,
+      ),
+    )
 
 add-to-requires-3 : tie.Need-add-to-requires-3 Inv-loop μ-loop
 add-to-requires-3 c κs =

@@ -27,7 +27,9 @@ abbrev μ-loop : tie.MeasureT-loop
 μ-loop sheet modes set f r₀ rest₀ r rest = rest
 
 loop-holds : tie.Need-loop-holds Inv-loop μ-loop
-loop-holds c = (c .before .fits .set .fits, λ i h. h, sym (those-start 64 (c .before .args .set) (judge (c .before .args .sheet .now) (c .before .args .modes) (c .before .args .f .now))))
+loop-holds c =
+    let a = c .before .args in
+    (c .before .fits .set .fits, λ i h. h, sym (those-start 64 (a .set) (judge (a .sheet .now) (a .modes) (a .f .now))))
 
 known : (c : tie.After-lowest Inv-loop μ-loop) {r : ℕ} → r ≡ minus (c .before .before .loop .rest) (single (lowest 64 (c .before .before .loop .rest)))
     → Turn 64 (c .before .before .loop .rest) (c .lowest .result) r

@@ -10,7 +10,8 @@ use Rattle.reaction.proofs.tick.after_round.Tie as tie
 
 -- in the words that the code computes first
 after-words : (z : Sets) (ends es : ℕ) {out in′ stay : ℕ} → out ≡ ends % 2 ^ 32 → in′ ≡ ends / 2 ^ 32 → stay ≡ minus (z .modes) out
-    → record { modes = union stay in′; entered = union (z .entered) in′; exited = union (z .exited) (meet (z .modes) out); taken = union (z .taken) es } ≡ afterEnds z ends es
+    → record { modes = union stay in′; entered = union (z .entered) in′; exited = union (z .exited) (meet (z .modes) out); taken = union (z .taken) es }
+    ≡ afterEnds z ends es
 after-words z ends es p q r = cc
 
 low-requires : tie.Need-low-requires

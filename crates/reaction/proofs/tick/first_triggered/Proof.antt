@@ -1,5 +1,5 @@
 -- `reaction::tick::first_triggered` meets its contract. Assumes nothing.
-use mathlib.Core.Path.{_≡_, sym, ap, _∙_}
+use mathlib.Core.Path.{_≡_, ap, _∙_}
 use Prim.Native.Nat.{ℕ, _+_}
 use native.Mathlib.Omega.{arith}
 use lib.ListN.{getD}
@@ -30,7 +30,8 @@ triggered-requires c κs =
     (b .pre .0 .passes, unsure-asks (b .args .sheet .now) (b .pre .1))
 
 -- the plan's word for the input set
-hits-at : (c : tie.After-wide) → getD (c .before .before .args .plan .now) (hitsPart + c .wide .result) 0 ≡ hitsOf (c .before .before .args .sheet .now) (c .before .before .args .input)
+hits-at : (c : tie.After-wide) → getD (c .before .before .args .plan .now) (hitsPart + c .wide .result) 0
+    ≡ hitsOf (c .before .before .args .sheet .now) (c .before .before .args .input)
 hits-at c =
     let b = c .before .before in
     ap (λ (w : ℕ). getD (b .args .plan .now) (hitsPart + w) 0) (c .wide .ensures) ∙ b .pre .0 .hitsAt (b .args .input) (b .pre .2)

@@ -1,15 +1,15 @@
 -- `reaction::tick::rounds` meets its contract. The loop's invariant is `Left`: what is left of the rounds gives what all give. Assumes nothing.
-use mathlib.Core.Path.{_≡_, refl, sym, ap, ap₂, _∙_, subst}
+use mathlib.Core.Path.{_≡_, sym, ap, _∙_}
 use Prim.Native.Nat.{ℕ, suc, _+_, _-_, _≤_}
 use native.Mathlib.Omega.{arith}
 use lib.ListN.{getD}
 use borrow.Author.Needs.{needs}
-use Rattle.sets.specs.Sets.{has, meet}
+use Rattle.sets.proofs.Tests.{is-true, of-true}
+use Rattle.sets.proofs.Facts.{meet-e}
 use Rattle.meaning.specs.Sheet.{tOf}
 use Rattle.meaning.proofs.SheetLaws.{sound, t-le}
-use Rattle.reaction.specs.Plan.{hitsPart, mixedWord, hitsOf, mixed}
-use Rattle.reaction.specs.Rounds.{setsOf, afterEnds}
-use Rattle.reaction.specs.declared.tick.Sets.{Sets}
+use Rattle.reaction.specs.Plan.{hitsPart, hitsOf, mixed}
+use Rattle.reaction.specs.Rounds.{setsOf}
 use Rattle.reaction.proofs.RoundLaws.{triggered-small}
 use Rattle.reaction.proofs.TriggerLaws.{input-lt, mixed-asks}
 use Rattle.reaction.proofs.RoundLoop.{Left, left-start, left-none, round-still, round-ambiguous, round-restless, round-by}
@@ -43,7 +43,8 @@ element-copy-out-mixed : tie.Need-element-copy-out-mixed Inv-loop μ-loop
 element-copy-out-mixed c = search needs
 
 -- the plan's word for the input set
-hits-at : (c : tie.After-wide Inv-loop μ-loop) → getD (c .before .before .before .args .plan .now) (hitsPart + c .wide .result) 0 ≡ hitsOf (c .before .before .before .args .sheet .now) (c .before .before .before .args .input)
+hits-at : (c : tie.After-wide Inv-loop μ-loop) → getD (c .before .before .before .args .plan .now) (hitsPart + c .wide .result) 0
+    ≡ hitsOf (c .before .before .before .args .sheet .now) (c .before .before .before .args .input)
 hits-at c =
     let b = c .before .before .before in
     ap (λ (w : ℕ). getD (b .args .plan .now) (hitsPart + w) 0) (c .wide .ensures) ∙ b .pre .0 .hitsAt (b .args .input) (b .pre .2)
@@ -107,7 +108,7 @@ triggered-requires : tie.Need-triggered-requires Inv-loop μ-loop
 triggered-requires c κs =
     let e = c .before .before .before .before .before .before .before .before in
     let b = entry e in
-    (b .pre .0 .passes, λ t m. mixed-asks (b .args .sheet .now) (e .round-of .result .moves .next) t (ap (λ (x : ℕ). has (meet (e .round-of .result .moves .next) x) t) (sym (b .pre .0 .judgedAt)) ∙ m))
+    (b .pre .0 .passes, λ t m. mixed-asks (b .args .sheet .now) t (b .pre .0 .judgedAt) (is-true _ (meet-e (e .round-of .result .moves .next) _ t (of-true m) .1)))
 
 add-r : tie.Need-add-r Inv-loop μ-loop
 add-r c =
@@ -125,7 +126,8 @@ loop-again c =
     round-by (e .before .before .before .before .loop .inv) (within e) (b .pre .0 .passes) (e .before .if2 .left) (e .round-of .ensures)
     (sym (c .before .before .before .before .before .before .before .meets .ensures) ∙ c .before .before .before .before .before .before .if3 .left)
     (sym (c .before .before .before .before .before .meets2 .ensures) ∙ c .before .before .before .before .if4 .left)
-    (b .pre .2) (hits-at (e .before .before .before .before .before .before .before)) (b .pre .0 .judgedAt) (c .before .before .before .after-round .ensures) (c .triggered .ensures)
+    (b .pre .2) (hits-at (e .before .before .before .before .before .before .before)) (b .pre .0 .judgedAt) (c .before .before .before .after-round .ensures)
+    (c .triggered .ensures)
 
 ended-requires-4 : tie.Need-ended-requires-4 Inv-loop μ-loop
 ended-requires-4 c κs = search needs
@@ -133,7 +135,8 @@ ended-requires-4 c κs = search needs
 returns-4 : tie.Need-returns-4 Inv-loop μ-loop
 returns-4 c =
     let b = c .before .before .before .before .before .before .before .before .before in
-    left-none (b .args .sheet .now) (b .args .begun) (b .args .entered) (b .args .first) (b .args .input) (c .before .before .before .loop .inv) (omega arith) (c .ended4 .ensures)
+    left-none (b .args .sheet .now) (b .args .begun) (b .args .entered) (b .args .first) (b .args .input) (c .before .before .before .loop .inv)
+    (omega arith) (c .ended4 .ensures)
 
 pub rounds-spec : {M : Type 1} → statement M
 rounds-spec =

@@ -241,7 +241,8 @@ loop-again c =
     let f = still none in
     let at = head f in (
       next-quiet (at .loop .inv .0) (runs at) (due f .due-from .ensures .0) (inside f .loop-test .taken) (input-ok (known (due f)))
-          (f .before .start-from .ensures) (f .first-triggered .ensures) (none .before .if2 .taken) (eqb-false (at .loop .x) 0 (not-true (eqb (at .loop .x) 0) (none .if3 .taken))) (due f .due-from .ensures .1)
+          (f .before .start-from .ensures) (f .first-triggered .ensures) (none .before .if2 .taken)
+          (eqb-false (at .loop .x) 0 (not-true (eqb (at .loop .x) 0) (none .if3 .taken))) (due f .due-from .ensures .1)
           (out .put-five .ensures ∙ ap (over (at .loop .out) (5 * at .loop .i)) (out .before .quiet-words .ensures)),
       at .loop .inv .1,
     )
