@@ -72,9 +72,10 @@ fn one_chain() -> Vec<u32> {
     words
 }
 
-// Rows that show the loss of what no contract sees: the hints of listed sets, compile on rings; the plan's hits, sheet run and
-// compile on event rings; the test for a tick that stays in its block, table run on the chart that waits; work that goes by pairs of
-// transitions or by climbing from mode to mode, check and plan on the one chain.
+// Rows that show the loss of what no contract sees: the hints of listed sets, compile on rings; one tick for cells alike, compile on
+// timer rings with k = 3 and 6; the plan's hits, sheet run and compile on event rings; what a round can trigger next, sheet run on the
+// chain; the next deadline, sheet run on the chart that waits; the test for a tick that stays in its block, table run on that chart;
+// work that goes by pairs of transitions or by climbing from mode to mode, check and plan on the one chain.
 pub fn charts(large: bool) -> Vec<(&'static str, Vec<u32>)> {
     let example = vec![3, 1, 2, 1, 0, 1, 0, 0, 0, 0, 0, 0, 16, 4, 20, 4, 1, 2, 1, 0, 2, 1, 0, 2];
     let mut charts = vec![
