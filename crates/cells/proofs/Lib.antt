@@ -1,3 +1,6 @@
 pub mod SearchLaws
 pub mod IndexLaws
 pub mod NextDueLaws
+pub mod BlockTimerLaws
+pub mod AlikeLaws
+pub mod TimerWordLaws

@@ -1,2 +1,4 @@
 pub mod Due
 pub mod Index
+pub mod Alike
+pub mod Block

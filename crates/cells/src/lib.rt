@@ -1,3 +1,6 @@
-// Blocks and cells by number: the listed sets, and the due timers of a cell.
+// Blocks and cells by number: the listed sets, a block and the due timers of a cell, the input sets with one cell, timer words.
+pub mod alike;
+pub mod block;
 pub mod due;
 pub mod listed;
+pub mod timer_word;

@@ -1,5 +1,3 @@
-pub mod BlockTimerLaws
-pub mod AlikeLaws
 pub mod RowAfterRowLaws
 pub mod WalkSteps
 pub mod DoneLaws

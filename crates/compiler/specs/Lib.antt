@@ -1,3 +1,3 @@
-pub mod Alike
+pub mod CellsPut
 pub mod Steps
 pub mod Outcome
