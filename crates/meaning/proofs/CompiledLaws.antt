@@ -1,4 +1,4 @@
--- What compile leaves, by its one refusal: nothing in the table, or a table that is faithful to the sheet. Assumes nothing.
+-- What compile leaves, by its one refusal: nothing in the table, or a table that is accepted for the sheet. Assumes nothing.
 use mathlib.Core.Path.{_≡_, refl, sym, _∙_, subst}
 use mathlib.Core.Logic.{_⊎_}
 use mathlib.Core.Bool.{Bool, true, false, cond}
@@ -14,13 +14,13 @@ use Rattle.meaning.specs.Lists.{overwritten, refusedIf}
 use Rattle.meaning.specs.Check.{sheetRefusal}
 use Rattle.meaning.specs.Hierarchy.{consistent}
 use Rattle.meaning.specs.Tick.{tick}
-use Rattle.meaning.specs.Table.{tableOk}
 use Rattle.meaning.specs.Compile.{Walk, walk, tableWords, compileRefusal, compile}
-use Rattle.meaning.specs.Faithful.{faithful, CompiledFaithful}
+use Rattle.meaning.specs.Acceptance.{Accepted, CompiledAccepted}
 use Rattle.meaning.proofs.RefusalLaws.{none-met, first-alone, unmet}
 use Rattle.meaning.proofs.SheetLaws.{Sound, sound}
 use Rattle.meaning.proofs.WalkFuel.{walk-few}
 use Rattle.meaning.proofs.WalkLaws.{walk-closed}
+use Rattle.meaning.proofs.AcceptanceLaws.{accepted-i}
 use Rattle.meaning.proofs.TableFaithful.{table-faithful}
 use Rattle.meaning.proofs.TableSound.{table-ok}
 
@@ -60,10 +60,6 @@ module _ (s table work : List ℕ) where
           let a = compile-accepts s o (length table) (eqb-true (compileRefusal s o (length table)) 0 e) in
           subst (λ (c : Bool). length (tableWords s (cond c (o .listed) [])) ≤ length table) (sym (eq-eqb (sheetRefusal s) 0 (a .passes))) (a .room)
 
-  pub compiled-passes : compile s table work .refusal ≡ 0 → sheetRefusal s ≡ 0
-  unfolding compile
-  compiled-passes h = compile-accepts s (walk s (length work)) (length table) h .passes
-
   -- the words that it leaves are the table of the walk
   compiled-words : compile s table work .refusal ≡ 0
       → take (compile s table work .tableLength) (compile s table work .table) ≡ tableWords s (walk s (length work) .listed)
@@ -75,17 +71,18 @@ module _ (s table work : List ℕ) where
       (take-append-seam words (drop (length words) table))
 
 -- by the one fact that a tick leaves a consistent set
-pub compiled-faithful-from : ((s : List ℕ) → Sound s → (y d i : ℕ) → (y ≡ 0) ⊎ T (consistent s y) → T (consistent s (tick s y d i .sets .modes)))
-    → CompiledFaithful
-unfolding CompiledFaithful
-compiled-faithful-from keeps s table work h =
-    subst (λ (w : List ℕ). T (tableOk w) × T (faithful s w)) (sym (compiled-words s table work h)) (go (compile-accepts s o (length table) (unfold compile in h)))
+pub compiled-accepted-from : ((s : List ℕ) → Sound s → (y d i : ℕ) → (y ≡ 0) ⊎ T (consistent s y) → T (consistent s (tick s y d i .sets .modes)))
+    → CompiledAccepted
+unfolding CompiledAccepted
+compiled-accepted-from keeps s table work h =
+    subst (Accepted s) (sym (compiled-words s table work h)) (go (compile-accepts s o (length table) (unfold compile in h)))
   where
     o : Walk
     o = walk s (length work)
 
-    go : CompileAccepts s o (length table) → T (tableOk (tableWords s (o .listed))) × T (faithful s (tableWords s (o .listed)))
+    go : CompileAccepts s o (length table) → Accepted s (tableWords s (o .listed))
     go a =
         let sd = sound s (a .passes) in
         let r = walk-closed s (keeps s sd) (length work) (a .walked) in
-        (table-ok s sd (o .listed) (le-trans (walk-few s (length work)) (min-le-right (length work) 4095)) (r .0) (r .1), table-faithful s (o .listed) (r .0) (r .1))
+        let short = le-trans (walk-few s (length work)) (min-le-right (length work) 4095) in
+        accepted-i s (tableWords s (o .listed)) (a .passes) (table-ok s sd (o .listed) short (r .0) (r .1)) (table-faithful s (o .listed) (r .0) (r .1))

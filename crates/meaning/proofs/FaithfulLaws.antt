@@ -1,17 +1,19 @@
 -- What a table that is faithful to a sheet says, fact by fact. Assumes nothing.
 use mathlib.Core.Path.{_≡_, refl, sym, ap, _∙_}
+use mathlib.Core.Logic.{⊎-elim}
 use mathlib.Core.Bool.{Bool, not, cond}
 use mathlib.Core.List.{List}
 use Prim.Native.Nat.{ℕ, suc, _+_, _*_, _/_, _%_, _<_}
+use native.Mathlib.Nat.{le-antisymm}
 use native.Mathlib.Omega.{arith}
-use lib.Dec.{T, eqb, eqb→eq}
+use lib.Dec.{T, eqb, eqb→eq, T-not}
 use lib.Arith.{digits-div, digits-mod}
 use lib.ListN.{getD}
 use lib.Seq.{ext-getD}
 use borrow.Author.Tests.{eq-eqb}
 use Rattle.sets.specs.Sets.{some}
-use Rattle.sets.proofs.Tests.{is-true, of-true}
-use Rattle.sets.proofs.Facts.{every-e, every-i}
+use Rattle.sets.proofs.Tests.{is-true, of-true, below-or-not}
+use Rattle.sets.proofs.Facts.{some-i, every-e, every-i}
 use Rattle.meaning.specs.Lists.{rowFrom}
 use Rattle.meaning.specs.Sheet.{kOf, tOf, source}
 use Rattle.meaning.specs.Hierarchy.{consistent}
@@ -85,7 +87,7 @@ module _ (s w : List ℕ) where
     unfolding faithful
     t-same = eqb→eq (tIn w) (tOf s) (allOf-e _ h .1 .0)
 
-    timer-same : (t : ℕ) → t < tOf s → wordIn w (4 + t) ≡ timerWord s t
+    pub timer-same : (t : ℕ) → t < tOf s → wordIn w (4 + t) ≡ timerWord s t
     unfolding faithful
     timer-same t l = eqb→eq (wordIn w (4 + t)) (timerWord s t) (every-e (tOf s) (λ u. eqb (wordIn w (4 + u)) (timerWord s u)) (allOf-e _ h .1 .1 .0) t l)
 
@@ -99,6 +101,17 @@ module _ (s w : List ℕ) where
           timers = eqb→eq (timersIn w b) (running s (maskIn w b)) (t .1 .1 .0);
           cells = λ c k. cell-true b c (every-e (cellsIn w b) (cellFaithful s w b) (t .1 .1 .1 .0) c k);
         }
+
+    -- no mask stands twice: blocks of one mask are one block
+    mask-before : (a b : ℕ) → b < bIn w → maskIn w a ≡ maskIn w b → a < b → ⊥
+    mask-before a b l e k =
+        T-not (some b (λ i. eqb (maskIn w i) (maskIn w b))) (block-true b l .once)
+        (some-i b (λ i. eqb (maskIn w i) (maskIn w b)) a k (of-true (eq-eqb (maskIn w a) (maskIn w b) e)))
+
+    pub mask-once : (a b : ℕ) → a < bIn w → b < bIn w → maskIn w a ≡ maskIn w b → a ≡ b
+    mask-once a b la lb e =
+        ⊎-elim (λ k. absurd (mask-before a b lb e k))
+        (λ k. ⊎-elim (λ m. absurd (mask-before b a la (sym e) m)) (λ m. le-antisymm m k) (below-or-not b a)) (below-or-not a b)
 
     -- a timer's word: source and delay
     module _ (sd : Sound s) (t : ℕ) (l : t < tOf s) (m : T (isTimer s t)) where

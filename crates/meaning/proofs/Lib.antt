@@ -21,10 +21,12 @@ pub mod WalkLaws
 pub mod TableLaws
 pub mod LayoutLaws
 pub mod FaithfulLaws
+pub mod AcceptanceLaws
 pub mod Simulation
 pub mod ServedLaws
 pub mod WholeListLaws
 pub mod StateLaws
+pub mod MasksFixTable
 pub mod HighestLevel
 pub mod WithinLaws
 pub mod TableFaithful

@@ -1,6 +1,6 @@
 -- Laws of rows, places, rising numbers and lists of tests. Assumes nothing.
 use mathlib.Core.Path.{_≡_, refl, sym, ap, ap₂, _∙_, subst}
-use mathlib.Core.Logic.{_⊎_, inl, inr}
+use mathlib.Core.Logic.{_⊎_, inl, inr, ⊎-elim}
 use mathlib.Core.Bool.{Bool, true, false, _&&_, _||_, cond, and-false}
 use mathlib.Core.List.{List, [], _∷_, _++_, flatten, append-assoc, map}
 use Prim.Native.Nat.{ℕ, zero, suc, _+_, _*_, _≤_, _<_}
@@ -9,7 +9,7 @@ use native.Mathlib.Omega.{arith}
 use lib.Dec.{T, eqb, eqb→eq, eqb-refl, ltb, lt→ltb}
 use lib.ListN.{length, getD, length-append}
 use lib.Seq.{ext-getD}
-use Rattle.sets.proofs.Tests.{and-l, and-r, and-i, or-e, or-l, or-r}
+use Rattle.sets.proofs.Tests.{and-l, and-r, and-i, or-e, or-l, or-r, below-or-not}
 use Rattle.meaning.specs.Lists.{rowFrom, isIn, allOf, firstOf}
 
 -- the tests of a list all pass: a product, one part for each
@@ -85,6 +85,13 @@ steps-le e n h i (suc j) k l = go (eq-or-lt-of-le k) (λ m. steps-le e n h i j m
     go : (i ≡ suc j) ⊎ (i < suc j) → (i ≤ j → e i ≤ e j) → e i ≤ e (suc j)
     go (inl q) ih = le-of-eq (ap e q)
     go (inr q) ih = le-trans (ih (le-of-suc-le-suc q)) (h j l)
+
+-- a number that is not below the first of some numbers, but below the last, lies between two neighbours
+pub steps-find : (e : ℕ → ℕ) (n i : ℕ) → e 0 ≤ i → i < e n → (b : ℕ) × (b < n) × (e b ≤ i) × (i < e (suc b))
+steps-find e zero i k l = absurd (omega arith)
+steps-find e (suc n) i k l =
+    ⊎-elim (λ m. let r = steps-find e n i k m in (r .0, omega (arith, r .1), r .2, r .3)) (λ m. (n, omega arith, m, l))
+    (below-or-not i (e n))
 
 -- place j of a row
 pub rowFrom-at : {A : Type 0} (f : ℕ → A) (a : A) (i w j : ℕ) → j < w → getD (rowFrom i w f) j a ≡ f (i + j)

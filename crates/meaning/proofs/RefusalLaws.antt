@@ -1,9 +1,9 @@
 -- Laws of refusals in their order. Assumes nothing.
-use mathlib.Core.Path.{_≡_, refl, sym}
-use mathlib.Core.Bool.{Bool, true, false, cond}
+use mathlib.Core.Path.{_≡_, refl, sym, ap}
+use mathlib.Core.Bool.{Bool, true, false, not, cond}
 use mathlib.Core.List.{List, [], _∷_}
 use Prim.Native.Nat.{ℕ}
-use lib.Dec.{eqb}
+use lib.Dec.{T, eqb}
 use borrow.Author.Tests.{eqb-true, eqb-false, eq-eqb, ne-eqb}
 use Rattle.meaning.specs.Lists.{refusedIf, firstRefusal}
 
@@ -40,3 +40,18 @@ pub unmet : (b : Bool) (e : ℕ) → (e ≡ 0 → ⊥) → refusedIf b e ≡ 0 �
 unfolding refusedIf
 unmet true e n h = absurd (n h)
 unmet false e n h = refl
+
+-- a test whose failure is refused: it passes, where that refusal is not met, and the other way round
+pub test-passed-e : (b : Bool) (e : ℕ) → (e ≡ 0 → ⊥) → refusedIf (not b) e ≡ 0 → T b
+unfolding refusedIf
+test-passed-e true e n h = tt
+test-passed-e false e n h = absurd (n h)
+
+pub test-passed-i : (b : Bool) (e : ℕ) → T b → refusedIf (not b) e ≡ 0
+unfolding refusedIf
+test-passed-i true e h = refl
+
+-- where it fails the refusal is given
+pub test-failed : (b : Bool) (e : ℕ) → b ≡ false → refusedIf (not b) e ≡ e
+unfolding refusedIf
+test-failed b e h = ap (λ (c : Bool). cond (not c) e 0) h

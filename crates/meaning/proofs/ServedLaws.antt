@@ -25,6 +25,7 @@ use Rattle.meaning.specs.Table.{kIn, bIn, delayIn, maskIn, timersIn, tab
 use Rattle.meaning.specs.TableRun.{tableStep, tableStateOk, tableTicks, tableRun}
 use Rattle.meaning.specs.WholeList.{Call, legal, doneSets, refusalOf, runsFrom, doneWords, allDone}
 use Rattle.meaning.specs.Faithful.{faithful}
+use Rattle.meaning.proofs.RefusalLaws.{test-passed-i}
 use Rattle.meaning.proofs.SheetLaws.{Sound}
 use Rattle.meaning.proofs.TickLaws.{running-e, running-none}
 use Rattle.meaning.proofs.ReadingLaws.{Right, right-fresh, Zeros, zeros-fresh, zeros-next, readings-ok-i}
@@ -126,7 +127,7 @@ module _ (s : List ℕ) (sd : Sound s) (w : List ℕ) (ok : T (tableOk w)) (f : 
       is = c .inputs
 
       layout : refusedIf (not (tableOk w)) 15 ≡ 0
-      layout = unfold refusedIf in (ap (λ (b : Bool). cond (not b) 15 0) (is-true (tableOk w) ok))
+      layout = test-passed-i (tableOk w) 15 ok
 
       admitted : tableStateOk w q ≡ true
       admitted = is-true (tableStateOk w q) (state-ok q p st r zs)

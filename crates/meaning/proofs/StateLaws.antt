@@ -1,7 +1,7 @@
--- States stay good: a done tick leaves a state that 14 admits, and a faithful table never meets 15. Assumes nothing.
+-- States stay good: a done tick leaves a state that 14 admits, and an accepted table never meets 15. Assumes nothing.
 use mathlib.Core.Path.{_≡_, refl, sym, ap, _∙_, subst}
 use mathlib.Core.Logic.{_⊎_, inl, inr, ⊎-elim}
-use mathlib.Core.Bool.{Bool, true, false, not, _&&_, cond}
+use mathlib.Core.Bool.{Bool, true, false, not, _&&_}
 use mathlib.Core.List.{List}
 use Prim.Native.Nat.{ℕ, suc, _≤_, _<_}
 use native.Mathlib.Nat.{lt-of-lt-of-le}
@@ -9,7 +9,7 @@ use native.Mathlib.Omega.{arith}
 use lib.Dec.{T, eqb, ltb, eqb→eq, ltb→lt}
 use lib.ListN.{length}
 use Rattle.sets.specs.Sets.{has, every}
-use Rattle.sets.proofs.Tests.{is-true, of-true, and-l, and-r, and-i, or-e, or-r}
+use Rattle.sets.proofs.Tests.{of-true, and-l, and-r, and-i, or-e, or-r}
 use Rattle.sets.proofs.Facts.{every-e}
 use Rattle.meaning.specs.Lists.{refusedIf}
 use Rattle.meaning.specs.Sheet.{kOf, tOf}
@@ -24,7 +24,9 @@ use Rattle.meaning.specs.TableRun.{tableStateOk, cellOf, stateAfterCell,
 use Rattle.meaning.specs.WholeList.{legal}
 use Rattle.meaning.specs.Faithful.{faithful}
 use Rattle.meaning.specs.HighestLevelFirst.{NoReadingZero}
-use Rattle.meaning.specs.Promises.{SheetStateStays, TableStateStays, SheetRunsOn, TableRunsOn, FaithfulNotStale}
+use Rattle.meaning.specs.Acceptance.{TableStateStays, TableRunsOn, AcceptedNotStale}
+use Rattle.meaning.specs.Promises.{SheetStateStays, SheetRunsOn}
+use Rattle.meaning.proofs.RefusalLaws.{test-passed-i}
 use Rattle.meaning.proofs.SheetLaws.{Sound, sound, t-le}
 use Rattle.meaning.proofs.TickLaws.{running-e, rounds-refusal}
 use Rattle.meaning.proofs.Consistency.{keeps-consistent}
@@ -33,6 +35,7 @@ use Rattle.meaning.proofs.RunLaws.{tick-known, tick-done, refusal-state
 use Rattle.meaning.proofs.SheetTicksLaws.{Steady}
 use Rattle.meaning.proofs.LayoutLaws.{b-pos, mask-first}
 use Rattle.meaning.proofs.FaithfulLaws.{k-same, delay-same}
+use Rattle.meaning.proofs.AcceptanceLaws.{accepted-e}
 use Rattle.meaning.proofs.Simulation.{Stands, timers-stand, stands-next, table-good, right-step, ticks-agree}
 use Rattle.meaning.proofs.ServedLaws.{state-ok}
 
@@ -155,7 +158,7 @@ module _ (s : List ℕ) (sd : Sound s) (w : List ℕ) (ok : T (tableOk w)) (f : 
 
 pub table-state-stays : TableStateStays
 unfolding TableStateStays
-table-state-stays s w h ok f q i admitted known = table-stays s (sound s h) w ok f q i admitted known
+table-state-stays s w a = let r = accepted-e s w a in table-stays s (sound s (r .0)) w (r .1) (r .2)
 
 -- ---- runs
 
@@ -180,32 +183,38 @@ step-other w q i = go (isStale w (stateAfterCell w q (cellOf w q i)))
     go true h = omega arith
     go false h = omega arith
 
-layout-ok : (w : List ℕ) → T (tableOk w) → refusedIf (not (tableOk w)) 15 ≡ 0
-unfolding refusedIf
-layout-ok w ok = ap (λ (b : Bool). cond (not b) 15 0) (is-true (tableOk w) ok)
-
 pub table-runs-on : TableRunsOn
-unfolding TableRunsOn tableRun
-table-runs-on s w h ok f q inputs out more out′ n =
-    run-admitted (kIn w) (tableStep w) _ (layout-ok w ok) (tableStateOk w) (step-other w) _ more out′
-    (run-leaves (kIn w) (tableStep w) _ (layout-ok w ok) (tableStateOk w)
-    (λ p i e admitted. table-stays s (sound s h) w ok f p i admitted (tick-done (kIn w) (tableStep w) p i e .0) .1) q inputs out n)
+unfolding TableRunsOn TableStateStays tableRun
+table-runs-on s w a q inputs out more out′ n =
+    let layout = test-passed-i (tableOk w) 15 (accepted-e s w a .1) in
+    run-admitted (kIn w) (tableStep w) _ layout (tableStateOk w) (step-other w) _ more out′
+    (run-leaves (kIn w) (tableStep w) _ layout (tableStateOk w)
+    (λ p i e admitted. table-state-stays s w a p i admitted (tick-done (kIn w) (tableStep w) p i e .0) .1) q inputs out n)
 
-pub faithful-not-stale : FaithfulNotStale
-unfolding FaithfulNotStale tableRun
-faithful-not-stale s w h ok f q inputs out = go (tableStateOk w q) (outputShort inputs out) refl refl
+pub accepted-not-stale : AcceptedNotStale
+unfolding AcceptedNotStale tableRun
+accepted-not-stale s w a q inputs out = go (tableStateOk w q) (outputShort inputs out) refl refl
   where
     sd : Sound s
-    sd = sound s h
+    sd = sound s (accepted-e s w a .0)
+
+    ok : T (tableOk w)
+    ok = accepted-e s w a .1
+
+    f : T (faithful s w)
+    f = accepted-e s w a .2
+
+    layout : refusedIf (not (tableOk w)) 15 ≡ 0
+    layout = test-passed-i (tableOk w) 15 ok
 
     R : Run
     R = run (kIn w) (tableStep w) (refusedIf (not (tableOk w)) 15) (tableStateOk w q) q inputs out
 
-    go : (a b : Bool) → tableStateOk w q ≡ a → outputShort inputs out ≡ b → R .refusal ≡ 15 → ⊥
-    go false b e k z =
-        omega (arith, refusal-state (kIn w) (tableStep w) _ (tableStateOk w q) q inputs out (layout-ok w ok) e)
+    go : (x y : Bool) → tableStateOk w q ≡ x → outputShort inputs out ≡ y → R .refusal ≡ 15 → ⊥
+    go false y e k z =
+        omega (arith, refusal-state (kIn w) (tableStep w) _ (tableStateOk w q) q inputs out layout e)
     go true true e k z =
-        omega (arith, refusal-short (kIn w) (tableStep w) _ (tableStateOk w q) q inputs out (layout-ok w ok) e k)
+        omega (arith, refusal-short (kIn w) (tableStep w) _ (tableStateOk w q) q inputs out layout e k)
     go true false e k z = other (ltb (length (legal (kOf s) inputs)) (length inputs)) (sym agreed ∙ z)
       where
         good : StandsGood s sd w ok f q
@@ -213,7 +222,7 @@ faithful-not-stale s w h ok f q inputs out = go (tableStateOk w q) (outputShort 
 
         agreed : R .refusal ≡ refusedIf (ltb (length (legal (kOf s) inputs)) (length inputs)) 13
         agreed =
-            ap (λ (x : Run). x .refusal) (run-goes (kIn w) (tableStep w) _ (tableStateOk w q) q inputs out (layout-ok w ok) e k)
+            ap (λ (x : Run). x .refusal) (run-goes (kIn w) (tableStep w) _ (tableStateOk w q) q inputs out layout e k)
             ∙ (unfold ran refusedIf in (ticks-agree s sd w ok f inputs q (meant s sd w ok f q) (good .stands) (good .right) .refusal))
 
         other : (b : Bool) → refusedIf b 13 ≡ 15 → ⊥

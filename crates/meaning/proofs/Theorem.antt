@@ -1,6 +1,6 @@
 -- The whole-list theorem, and all that is promised besides. Assumes nothing.
-use Rattle.meaning.specs.Faithful.{FaithfulServes, CompiledFaithful}
 use Rattle.meaning.specs.WholeList.{WholeList}
+use Rattle.meaning.specs.Acceptance.{AcceptedServes, CompiledAccepted}
 use Rattle.meaning.specs.Promises.{Promised}
 use Rattle.meaning.proofs.Consistency.{keeps-consistent, keeps}
 use Rattle.meaning.proofs.TickLaws.{tick-rounds, rounds-enough}
@@ -10,34 +10,35 @@ use Rattle.meaning.proofs.WalkFuel.{walk-enough}
 use Rattle.meaning.proofs.TickInWordsLaws.{in-words}
 use Rattle.meaning.proofs.AnyOrder.{any-order}
 use Rattle.meaning.proofs.StayTriggered.{stay-triggered}
+use Rattle.meaning.proofs.AcceptanceLaws.{accepted-e}
 use Rattle.meaning.proofs.ServedLaws.{served-from-power-on}
 use Rattle.meaning.proofs.WholeListLaws.{served-each}
-use Rattle.meaning.proofs.StateLaws.{sheet-state-stays, table-state-stays, sheet-runs-on, table-runs-on, faithful-not-stale}
+use Rattle.meaning.proofs.StateLaws.{sheet-state-stays, table-state-stays, sheet-runs-on, table-runs-on, accepted-not-stale}
+use Rattle.meaning.proofs.MasksFixTable.{masks-fix-table}
 use Rattle.meaning.proofs.HighestLevel.{highest-level-first}
 use Rattle.meaning.proofs.NamedLaws.{named-events}
 use Rattle.meaning.proofs.WithinLaws.{mask-exact, mask-no-other, conflict-by-mask, gives-way-by-mask}
 use Rattle.meaning.proofs.MillisecondsLaws.{whole-delay, rest-below, ticks-fit}
 use Rattle.meaning.proofs.SheetLaws.{sound}
-use Rattle.meaning.proofs.CompiledLaws.{compiled-faithful-from, compiled-passes}
+use Rattle.meaning.proofs.CompiledLaws.{compiled-accepted-from}
 
--- a faithful table serves any list of calls from power-on as its sheet does
-pub faithful-serves : FaithfulServes
-unfolding FaithfulServes
-faithful-serves s w passes ok f cs =
-    let sd = sound s passes in
-    served-each s w cs (served-from-power-on s sd (keeps-consistent s sd) w ok f cs)
+-- an accepted table serves any list of calls from power-on as its sheet does
+pub accepted-serves : AcceptedServes
+unfolding AcceptedServes
+accepted-serves s w a cs =
+    let r = accepted-e s w a in
+    let sd = sound s (r .0) in
+    served-each s w cs (served-from-power-on s sd (keeps-consistent s sd) w (r .1) (r .2) cs)
 
--- a table that compile made is faithful to its sheet
-pub compiled-faithful : CompiledFaithful
-compiled-faithful = compiled-faithful-from keeps-consistent
+-- a table that compile made is accepted for its sheet
+pub compiled-accepted : CompiledAccepted
+compiled-accepted = compiled-accepted-from keeps-consistent
 
 -- So a table that compile made runs, from power-on and over any list of calls, as its sheet does. The statement is about the definitions
 -- `compile` and `tableRun`; the crate `whole_list` has it of the operations that are proved equal to these two.
 pub whole-list : WholeList
-unfolding WholeList FaithfulServes CompiledFaithful
-whole-list s table work h cs =
-    let f = compiled-faithful s table work h in
-    faithful-serves s _ (compiled-passes s table work h) (f .0) (f .1) cs
+unfolding WholeList AcceptedServes CompiledAccepted
+whole-list s table work h cs = accepted-serves s _ (compiled-accepted s table work h) cs
 
 pub promised : Promised
 promised =
@@ -58,9 +59,10 @@ promised =
       tableStateStays = table-state-stays;
       sheetRunsOn = sheet-runs-on;
       tableRunsOn = table-runs-on;
-      faithfulNotStale = faithful-not-stale;
-      compiledFaithful = compiled-faithful;
-      faithfulServes = faithful-serves;
+      acceptedNotStale = accepted-not-stale;
+      compiledAccepted = compiled-accepted;
+      acceptedServes = accepted-serves;
+      masksFixTable = masks-fix-table;
       highestLevelFirst = highest-level-first;
       namedEvents = named-events;
       maskExact = mask-exact;

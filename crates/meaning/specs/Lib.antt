@@ -18,6 +18,7 @@ pub mod TickInWords
 pub mod OneByOne
 pub mod WholeList
 pub mod Faithful
+pub mod Acceptance
 pub mod HighestLevelFirst
 pub mod NamedEvents
 pub mod Promises

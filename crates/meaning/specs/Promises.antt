@@ -14,14 +14,12 @@ use Rattle.meaning.specs.Check.{sheetRefusal}
 use Rattle.meaning.specs.Hierarchy.{consistent, completedIn, childIn}
 use Rattle.meaning.specs.Reaction.{ambiguous}
 use Rattle.meaning.specs.Tick.{begin, roundsFrom, tick}
-use Rattle.meaning.specs.Run.{State, inputForeign}
+use Rattle.meaning.specs.Run.{State}
 use Rattle.meaning.specs.SheetRun.{stateOk, tickFrom, stateAfter, sheetStep, sheetTicks, sheetRun}
-use Rattle.meaning.specs.Table.{kIn, tableOk}
-use Rattle.meaning.specs.TableRun.{tableStateOk, tableStep, tableRun}
 use Rattle.meaning.specs.TickInWords.{timedTick, timedState}
 use Rattle.meaning.specs.OneByOne.{Reaction, isTriggered, eligibleIn, takeInOrder, takeTogether}
 use Rattle.meaning.specs.Compile.{walkFrom, walk}
-use Rattle.meaning.specs.Faithful.{faithful, FaithfulServes, CompiledFaithful}
+use Rattle.meaning.specs.Acceptance.{AcceptedServes, CompiledAccepted, MasksFixTable, TableStateStays, TableRunsOn, AcceptedNotStale}
 use Rattle.meaning.specs.HighestLevelFirst.{HighestLevelFirst}
 use Rattle.meaning.specs.NamedEvents.{NamedEvents}
 use Rattle.meaning.specs.Within.{MaskExact, MaskNoOther, ConflictByMask, GivesWayByMask}
@@ -92,31 +90,12 @@ SheetStateStays =
     (s : List ℕ) → sheetRefusal s ≡ 0 → (q : State) (i : ℕ) → T (stateOk s q) → sheetStep s q i .refusal ≡ 0
     → T (stateOk s (sheetStep s q i .state))
 
--- so in a table run of a faithful table, where every tick on a known set is done: none is refused 15
-unfoldable pub TableStateStays : Type 0
-TableStateStays =
-    (s w : List ℕ) → sheetRefusal s ≡ 0 → T (tableOk w) → T (faithful s w)
-    → (q : State) (i : ℕ) → T (tableStateOk w q) → inputForeign (kIn w) i ≡ false
-    → (tableStep w q i .refusal ≡ 0) × T (tableStateOk w (tableStep w q i .state))
-
--- no run is refused 14 on what a run returned that was not refused 14 itself
+-- so no sheet run is refused 14 on what a run returned that was not refused 14 itself
 unfoldable pub SheetRunsOn : Type 0
 SheetRunsOn =
     (s : List ℕ) → sheetRefusal s ≡ 0 → (q : State) (inputs out more out′ : List ℕ)
     → (sheetRun s q inputs out .refusal ≡ 14 → ⊥)
     → sheetRun s (sheetRun s q inputs out .state) more out′ .refusal ≡ 14 → ⊥
-
-unfoldable pub TableRunsOn : Type 0
-TableRunsOn =
-    (s w : List ℕ) → sheetRefusal s ≡ 0 → T (tableOk w) → T (faithful s w) → (q : State) (inputs out more out′ : List ℕ)
-    → (tableRun w q inputs out .refusal ≡ 14 → ⊥)
-    → tableRun w (tableRun w q inputs out .state) more out′ .refusal ≡ 14 → ⊥
-
--- a run of a faithful table is never refused 15, from any state
-unfoldable pub FaithfulNotStale : Type 0
-FaithfulNotStale =
-    (s w : List ℕ) → sheetRefusal s ≡ 0 → T (tableOk w) → T (faithful s w) → (q : State) (inputs out : List ℕ)
-    → tableRun w q inputs out .refusal ≡ 15 → ⊥
 
 -- all of them
 pub record Promised : Type 0 where
@@ -136,9 +115,10 @@ pub record Promised : Type 0 where
   pub tableStateStays : TableStateStays
   pub sheetRunsOn : SheetRunsOn
   pub tableRunsOn : TableRunsOn
-  pub faithfulNotStale : FaithfulNotStale
-  pub compiledFaithful : CompiledFaithful
-  pub faithfulServes : FaithfulServes
+  pub acceptedNotStale : AcceptedNotStale
+  pub compiledAccepted : CompiledAccepted
+  pub acceptedServes : AcceptedServes
+  pub masksFixTable : MasksFixTable
   pub highestLevelFirst : HighestLevelFirst
   pub namedEvents : NamedEvents
   pub maskExact : MaskExact
