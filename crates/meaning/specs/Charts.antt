@@ -1,4 +1,4 @@
--- Sheets drawn from mode rows and records, for the examples. Assumes nothing.
+-- Sheets drawn from mode rows and records, and tables put together from blocks, for the examples. Assumes nothing.
 use mathlib.Core.List.{List, [], _∷_, _++_, flatten}
 use Prim.Native.Nat.{ℕ, _+_, _*_}
 use lib.ListN.{length}
@@ -46,3 +46,9 @@ rings r =
     (flatten (rowFrom 0 r (λ i.
     let a = 1 + r + 2 * i in
     transition a (a + 1) (after 1) ∷ transition (a + 1) a (after 0) ∷ [])))
+
+-- the table with k events, these timer words and these blocks
+abbrev pub tableOf : ℕ → List ℕ → List (List ℕ) → List ℕ
+tableOf k timers blocks =
+    1 ∷ k ∷ length timers ∷ length blocks
+    ∷ timers ++ (pairsFrom (4 + length timers + 2 * length blocks) blocks ++ flatten blocks)

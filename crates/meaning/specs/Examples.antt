@@ -4,19 +4,18 @@ use mathlib.Core.Path.{_≡_, refl}
 use mathlib.Core.Bool.{true, false}
 use mathlib.Core.List.{List, [], _∷_, _++_}
 use Prim.Native.Nat.{ℕ, _+_, _-_, _^_}
-use lib.ListN.{replicate}
+use lib.ListN.{replicate, set}
 use Rattle.meaning.specs.Lists.{rowFrom}
 use Rattle.meaning.specs.Tick.{tick}
 use Rattle.meaning.specs.Run.{powerOn}
 use Rattle.meaning.specs.SheetRun.{sheetRun}
-use Rattle.meaning.specs.Table.{tableOk}
 use Rattle.meaning.specs.TableRun.{tableRun}
 use Rattle.meaning.specs.Compile.{compile}
 use Rattle.meaning.specs.Within.{masksOf}
 use Rattle.meaning.specs.Milliseconds.{milliseconds}
-use Rattle.meaning.specs.Faithful.{faithful}
+use Rattle.meaning.specs.Acceptance.{acceptRefusal}
 use Rattle.meaning.specs.NamedEvents.{names}
-use Rattle.meaning.specs.Charts.{atomic, serial, parallel, after, present, absent, taken, transition, sheetOf, rings}
+use Rattle.meaning.specs.Charts.{atomic, serial, parallel, after, present, absent, taken, transition, sheetOf, rings, tableOf}
 use Rattle.meaning.specs.Opened.{opened}
 
 -- the whole example's sheet and table
@@ -31,13 +30,22 @@ table =
     ∷ 3 ∷ 0 ∷ 0 ∷ 1 ∷ 0 ∷ 0 ∷ 3 ∷ 0 ∷ 0 ∷ 2 ∷ 4 ∷ 2 ∷ 7 ∷ 1 ∷ 0
     ∷ 5 ∷ 2 ∷ 0 ∷ 2 ∷ 0 ∷ 0 ∷ 5 ∷ 0 ∷ 0 ∷ 2 ∷ 0 ∷ 0 ∷ 5 ∷ 0 ∷ 0 ∷ 1 ∷ 2 ∷ 4 ∷ 7 ∷ 2 ∷ 0 ∷ 2 ∷ 6 ∷ 6 ∷ 7 ∷ 3 ∷ 0 ∷ []
 
--- the same table with blocks 1 and 2 in the other order
+-- the same table with blocks 1 and 2 in the other order; with block 1 twice
+abbrev power-on-block : List ℕ
+power-on-block = 0 ∷ 0 ∷ 0 ∷ 2 ∷ 3 ∷ 0 ∷ 3 ∷ 0 ∷ 0 ∷ 1 ∷ 7 ∷ 2 ∷ 7 ∷ 1 ∷ 0 ∷ []
+
+abbrev timer-block : List ℕ
+timer-block =
+    5 ∷ 2 ∷ 0 ∷ 1 ∷ 0 ∷ 0 ∷ 5 ∷ 0 ∷ 0 ∷ 1 ∷ 0 ∷ 0 ∷ 5 ∷ 0 ∷ 0 ∷ 2 ∷ 2 ∷ 4 ∷ 7 ∷ 2 ∷ 0 ∷ 1 ∷ 6 ∷ 6 ∷ 7 ∷ 3 ∷ 0 ∷ []
+
+abbrev first-block : List ℕ
+first-block = 3 ∷ 0 ∷ 0 ∷ 2 ∷ 0 ∷ 0 ∷ 3 ∷ 0 ∷ 0 ∷ 1 ∷ 4 ∷ 2 ∷ 7 ∷ 1 ∷ 0 ∷ []
+
 abbrev reordered : List ℕ
-reordered =
-    1 ∷ 1 ∷ 2 ∷ 3 ∷ 0 ∷ 131074 ∷ 12 ∷ 15 ∷ 27 ∷ 27 ∷ 54 ∷ 15
-    ∷ 0 ∷ 0 ∷ 0 ∷ 2 ∷ 3 ∷ 0 ∷ 3 ∷ 0 ∷ 0 ∷ 1 ∷ 7 ∷ 2 ∷ 7 ∷ 1 ∷ 0
-    ∷ 5 ∷ 2 ∷ 0 ∷ 1 ∷ 0 ∷ 0 ∷ 5 ∷ 0 ∷ 0 ∷ 1 ∷ 0 ∷ 0 ∷ 5 ∷ 0 ∷ 0 ∷ 2 ∷ 2 ∷ 4 ∷ 7 ∷ 2 ∷ 0 ∷ 1 ∷ 6 ∷ 6 ∷ 7 ∷ 3 ∷ 0
-    ∷ 3 ∷ 0 ∷ 0 ∷ 2 ∷ 0 ∷ 0 ∷ 3 ∷ 0 ∷ 0 ∷ 1 ∷ 4 ∷ 2 ∷ 7 ∷ 1 ∷ 0 ∷ []
+reordered = tableOf 1 (0 ∷ 131074 ∷ []) (power-on-block ∷ timer-block ∷ first-block ∷ [])
+
+abbrev doubled : List ℕ
+doubled = tableOf 1 (0 ∷ 131074 ∷ []) (power-on-block ∷ timer-block ∷ first-block ∷ first-block ∷ [])
 
 -- the bench program's inputs and the words of its five ticks
 abbrev inputs : List ℕ
@@ -66,9 +74,13 @@ to-and-fro = sheetOf 1 two-modes (transition 1 2 (present 0) ∷ transition 2 1 
 abbrev two-events : List ℕ
 two-events = sheetOf 2 two-modes (transition 1 2 (present 0) ∷ transition 2 1 (absent 1) ∷ [])
 
+-- three modes in series, 1 first
+abbrev three-modes : List (List ℕ)
+three-modes = two-modes ++ (atomic 0 ∷ [])
+
 -- 1→2 and 1→3, each on its term
 abbrev fork : List ℕ → List ℕ → List ℕ
-fork a b = sheetOf 1 (serial 0 1 ∷ atomic 0 ∷ atomic 0 ∷ atomic 0 ∷ []) (transition 1 2 a ∷ transition 1 3 b ∷ [])
+fork a b = sheetOf 1 three-modes (transition 1 2 a ∷ transition 1 3 b ∷ [])
 
 -- a serial root with m atomic modes
 abbrev flat : ℕ → List ℕ
@@ -123,6 +135,34 @@ outer-triggered =
     sheetOf 1 (parallel 0 ∷ serial 0 3 ∷ serial 0 5 ∷ atomic 1 ∷ atomic 1 ∷ serial 2 7 ∷ atomic 2 ∷ atomic 5 ∷ atomic 5 ∷ [])
     (transition 3 4 (present 0) ∷ transition 7 8 (present 0) ∷ transition 5 6 (taken 0) ∷ [])
 
+-- modes 2 and 3 are never reached: 2→3 on event 0; or 2→1 and 2→3, both on event 0
+abbrev not-reached : List ℕ
+not-reached = sheetOf 1 three-modes (transition 2 3 (present 0) ∷ [])
+
+abbrev not-reached-fork : List ℕ
+not-reached-fork = sheetOf 1 three-modes (transition 2 1 (present 0) ∷ transition 2 3 (present 0) ∷ [])
+
+-- blocks of such sheets: power-on, and the set of mode 1, of 2 and of 3
+abbrev start-1 : List ℕ
+start-1 = 0 ∷ 0 ∷ 0 ∷ 1 ∷ 3 ∷ 0 ∷ 3 ∷ 0 ∷ 0 ∷ 1 ∷ 3 ∷ 0 ∷ 3 ∷ 0 ∷ 0 ∷ []
+
+abbrev stays-1 : List ℕ
+stays-1 = 3 ∷ 0 ∷ 0 ∷ 1 ∷ 0 ∷ 0 ∷ 3 ∷ 0 ∷ 0 ∷ 1 ∷ 0 ∷ 0 ∷ 3 ∷ 0 ∷ 0 ∷ []
+
+abbrev leaves-2 : List ℕ
+leaves-2 = 5 ∷ 0 ∷ 0 ∷ 2 ∷ 0 ∷ 0 ∷ 5 ∷ 0 ∷ 0 ∷ 3 ∷ 8 ∷ 4 ∷ 13 ∷ 1 ∷ 0 ∷ []
+
+abbrev stays-3 : List ℕ
+stays-3 = 9 ∷ 0 ∷ 0 ∷ 3 ∷ 0 ∷ 0 ∷ 9 ∷ 0 ∷ 0 ∷ 3 ∷ 0 ∷ 0 ∷ 9 ∷ 0 ∷ 0 ∷ []
+
+-- two regions with timers of 1 and 2 ticks from power-on: the second is never due without the first having been
+abbrev two-timers : List ℕ
+two-timers =
+    sheetOf 0 (parallel 0 ∷ serial 0 3 ∷ serial 0 5 ∷ atomic 1 ∷ atomic 1 ∷ atomic 2 ∷ atomic 2 ∷ []) (transition 3 4 (after 1) ∷ transition 5 6 (after 2) ∷ [])
+
+abbrev two-timers-table : List ℕ
+two-timers-table = compile two-timers (lent 91) (lent 4) .table
+
 pub record Examples : Type 0 where
   -- the sheet as it is drawn; "this table"; "69 words accepted, 68 refused 10; work list 2 accepted, 1 refused 11"; words past the table's and the listed
   -- sets' stay
@@ -139,11 +179,23 @@ pub record Examples : Type 0 where
   -- "input 1 at tick 3 gives 6 6 7 3 0"
   pub input-at-3 : tableRun table powerOn (0 ∷ 1 ∷ 0 ∷ 1 ∷ []) (lent 20) .out
       ≡ 3 ∷ 0 ∷ 3 ∷ 0 ∷ 0 ∷ 4 ∷ 2 ∷ 7 ∷ 1 ∷ 0 ∷ 0 ∷ 0 ∷ 5 ∷ 0 ∷ 0 ∷ 6 ∷ 6 ∷ 7 ∷ 3 ∷ 0 ∷ []
-  -- Ask 4: the table is faithful to its sheet, "Blocks may be in another order than ours", and not to another sheet
-  pub own-faithful : faithful sheet table ≡ true
-  pub reordered-sound : tableOk reordered ≡ true
-  pub reordered-faithful : faithful sheet reordered ≡ true
-  pub other-sheet : faithful to-and-fro table ≡ false
+  -- Ask 4: our own table, "Blocks may be in another order than ours", not another sheet's; "no mask stands twice"
+  pub own-accepted : acceptRefusal sheet table ≡ 0
+  pub reordered-accepted : acceptRefusal sheet reordered ≡ 0
+  pub other-sheet : acceptRefusal to-and-fro table ≡ 17
+  pub mask-twice : acceptRefusal sheet doubled ≡ 17
+  -- 1 to 6, then 15, then 17: no words; block 0 with a mask; a mask with a bit at n
+  pub no-words : acceptRefusal [] [] ≡ 1
+  pub no-table : acceptRefusal sheet [] ≡ 15
+  pub mask-of-block-0 : acceptRefusal sheet (set table 12 3) ≡ 15
+  pub mask-above-n : acceptRefusal sheet (set table 27 11) ≡ 17
+  -- "may include sets that power-on never reaches"; a cell whose tick is ambiguous has no true result
+  pub with-not-reached : acceptRefusal not-reached (tableOf 1 (0 ∷ []) (start-1 ∷ stays-1 ∷ leaves-2 ∷ stays-3 ∷ [])) ≡ 0
+  pub without-ambiguous : acceptRefusal not-reached-fork (tableOf 1 (0 ∷ 0 ∷ []) (start-1 ∷ stays-1 ∷ [])) ≡ 0
+  pub with-ambiguous : acceptRefusal not-reached-fork (tableOf 1 (0 ∷ 0 ∷ []) (start-1 ∷ stays-1 ∷ leaves-2 ∷ stays-3 ∷ [])) ≡ 17
+  -- every cell counts: of the second timer due alone, which no clock brings, too
+  pub all-cells : acceptRefusal two-timers two-timers-table ≡ 0
+  pub cell-not-brought : acceptRefusal two-timers (set two-timers-table 43 0) ≡ 17
   -- "1→2 and 2→1 both on event 0: 9; 1→2 and 1→3 both on event 0: 8, on present and absent: accepted"
   pub both-ways : refusal to-and-fro ≡ 9
   pub both-present : refusal (fork (present 0) (present 0)) ≡ 8
@@ -205,10 +257,19 @@ examples =
       sheet-run = refl;
       table-run = refl;
       input-at-3 = refl;
-      own-faithful = refl;
-      reordered-sound = refl;
-      reordered-faithful = refl;
+      own-accepted = refl;
+      reordered-accepted = refl;
       other-sheet = refl;
+      mask-twice = refl;
+      no-words = refl;
+      no-table = refl;
+      mask-of-block-0 = refl;
+      mask-above-n = refl;
+      with-not-reached = refl;
+      without-ambiguous = refl;
+      with-ambiguous = refl;
+      all-cells = refl;
+      cell-not-brought = refl;
       both-ways = refl;
       both-present = refl;
       present-absent = refl;

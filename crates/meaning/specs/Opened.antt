@@ -17,6 +17,7 @@ use Rattle.meaning.specs.TableRun.{dueNumber, tableStateOk, cellOf, stat
 use Rattle.meaning.specs.Compile.{dueSet, pairsFrom, workListFull, timersMany, cellCount, cellTick, listing, cellsFrom, walkFrom, walk, timerWord, cellWords, blockWords, tableWords, compileRefusal, compile}
 use Rattle.meaning.specs.Milliseconds.{ticksAndRests, resultsShort, ticksOutOfRange, milliseconds}
 use Rattle.meaning.specs.Faithful.{cellFaithful, blockFaithful, faithful}
+use Rattle.meaning.specs.Acceptance.{acceptRefusal}
 use Rattle.meaning.specs.NamedEvents.{names}
 
 unfoldable in-sets : Unit {0}
@@ -80,7 +81,7 @@ unfolding ticksAndRests resultsShort ticksOutOfRange milliseconds
 in-milliseconds = tt
 
 unfoldable in-faithful : Unit {0}
-unfolding cellFaithful blockFaithful faithful
+unfolding cellFaithful blockFaithful faithful acceptRefusal
 in-faithful = tt
 
 unfoldable in-named-events : Unit {0}

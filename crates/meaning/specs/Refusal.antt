@@ -26,9 +26,11 @@ numberOf InputSet = 13
 numberOf State = 14
 -- whoever brings a table: `tableOk` (Table) fails, or `isStale` (TableRun) at a tick
 numberOf Layout = 15
--- of requests that have not landed: a transition number at T or above, a table that is not faithful, the number of stations, their parts
+-- of a request that has not landed: a transition number at T or above
 numberOf Transition = 16
+-- whoever brings a table: `faithful` (Faithful) fails
 numberOf Unfaithful = 17
+-- of a request that has not landed: the number of stations, their parts
 numberOf Stations = 18
 numberOf Parts = 19
 -- whoever converts milliseconds: `ticksOutOfRange` (Milliseconds)
