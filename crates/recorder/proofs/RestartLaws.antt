@@ -19,7 +19,7 @@ use Rattle.meaning.specs.Run.{State, reading, dueTimers, nextState}
 use Rattle.meaning.specs.Table.{tIn, bIn, sourceIn, delayIn, timersIn, cellWord, tableOk}
 use Rattle.meaning.specs.TableRun.{stateAfterCell, isStale}
 use Rattle.meaning.proofs.ReadingLaws.{next-reading, due-at}
-use Rattle.table.proofs.LayoutFacts.{t-le, delay-pos, source-lt}
+use Rattle.table.proofs.LayoutFacts.{shape-of, t-le, delay-pos, source-lt}
 use Rattle.recorder.specs.Timers.{timersBelow, timersFrom}
 use Rattle.meaning.proofs.ListLaws.{row-at}
 
@@ -54,7 +54,7 @@ module _ (w : List ℕ) (h : T (tableOk w)) where
     from-word m l =
         let p : ℕ → Bool = λ t. ltb 0 (delayIn w t) && eqb (sourceIn w t) m in
         subst (λ (x : ℕ). x < 2 ^ 64) (sym (from-at m l))
-        (lt-of-lt-of-le (setOf-lt (tIn w) p) (pow-le-pow-right (omega arith) {i = tIn w} (t-le w h)))
+        (lt-of-lt-of-le (setOf-lt (tIn w) p) (pow-le-pow-right (omega arith) {i = tIn w} (t-le w (shape-of w h))))
 
     module _ (entered : ℕ) where
       -- the timers whose source was entered, as the code finds them
@@ -63,7 +63,7 @@ module _ (w : List ℕ) (h : T (tableOk w)) where
 
       module _ (t : ℕ) (l : t < tIn w) (p : 0 < delayIn w t) where
         small : sourceIn w t < 32
-        small = source-lt w h t l p
+        small = source-lt w (shape-of w h) t l p
 
         -- it stands with its source alone
         from-has : (m : ℕ) → m < 32 → has (getD from m 0) t ≡ eqb (sourceIn w t) m
@@ -84,7 +84,7 @@ module _ (w : List ℕ) (h : T (tableOk w)) where
 
         pub started-there : has startedBy t ≡ has entered (sourceIn w t)
         started-there =
-            has-setOf 64 (λ u. someIn 32 (meet entered timed) (λ m. has (getD from m 0) u)) t (lt-of-lt-of-le l (t-le w h))
+            has-setOf 64 (λ u. someIn 32 (meet entered timed) (λ m. has (getD from m 0) u)) t (lt-of-lt-of-le l (t-le w (shape-of w h)))
             ∙ bool-ext (someIn 32 (meet entered timed) (λ m. has (getD from m 0) t)) (has entered (sourceIn w t))
             (λ g.
             let r = someIn-e 32 (meet entered timed) (λ m. has (getD from m 0) t) g in
@@ -138,7 +138,7 @@ module _ (w : List ℕ) (h : T (tableOk w)) where
       spent t k m = ap (λ (r : ℕ). eqb r 0) (reading-after t k m) ∙ go (has enteredNow (sourceIn w t))
         where
           go : (b : Bool) → eqb (cond b (delayIn w t) (reading (q .readings) t - 1)) 0 ≡ (not b && not (has timersNow t && not (has due t)))
-          go true = ne-eqb (delayIn w t) 0 (λ z. omega (arith, delay-pos w h (cellWord w (q .at) c 0) l t m k))
+          go true = ne-eqb (delayIn w t) 0 (λ z. omega (arith, delay-pos w (shape-of w h) (cellWord w (q .at) c 0) l t m k))
           go false = lowered t k
 
       -- the test for 15, by the timers that start again

@@ -22,7 +22,7 @@ use Rattle.run.proofs.DeadlineLaws.{stateFrom, state-next, deadline-after, stat
 use Rattle.run.proofs.LoopLaws.{input-below, reached-start, reached-turn, ByDeadlines, due-now, ends-refused}
 use Rattle.meaning.proofs.TableLaws.{cell-lt}
 use Rattle.meaning.proofs.LayoutLaws.{next-lt}
-use Rattle.table.proofs.LayoutFacts.{timers-few, timer-lt, delay-pos, delay-lt, cell-inside}
+use Rattle.table.proofs.LayoutFacts.{shape-of, timers-few, timer-lt, delay-pos, delay-lt, cell-inside}
 use Rattle.recorder.specs.Timers.{timerDelayIn, timersFrom}
 use Rattle.recorder.specs.Runs.{fiveIn}
 use Rattle.meaning.proofs.ListLaws.{row-at, rowFrom-length}
@@ -71,7 +71,7 @@ module _ (w : List ℕ) (h : T (tableOk w)) (q : State) (ok : tableStateOk w q �
       ahead : (t : ℕ) → T (has (timersIn w (q .at)) t) → (0 < getD (q .readings) t 0) × (getD (q .readings) t 0 ≤ 0 + 65535)
       ahead t m =
           let r = start-within (timersIn w (q .at)) (delayIn w) q (admitted w h q ok .1) t (has-lt 64 (timersIn w (q .at)) t (rw be at fits) m) m in
-          (omega (arith, r .0), omega (arith, r .1, delay-lt w h t))
+          (omega (arith, r .0), omega (arith, r .1, delay-lt w t))
 
 -- the deadline v of a timer with a reading f left after a tick, started in it or not, and running before it or not
 deadline-left : (i : ℕ) (started on : Bool) {v f r e d : ℕ} → v ≡ cond started (i + 1 + d) e → f ≡ cond started d (r - 1) → 0 < f
@@ -98,7 +98,7 @@ module _ {w inputs out₀ : List ℕ} {q₀ : State} {out ends : List ℕ} {b i 
   number-small te d e =
       rw (e, te)
       (lt-of-lt-of-le (dueNumber-lt (members 64 (timersIn w b)) d)
-      (pow-le-pow-right (omega arith) {i = size 64 (timersIn w b)} (timers-few w (k .sound) b (k .low))))
+      (pow-le-pow-right (omega arith) {i = size 64 (timersIn w b)} (timers-few w (shape-of w (k .sound)) b (k .low))))
 
   -- ---- the state after a cell, by the deadlines then
 
@@ -113,7 +113,7 @@ module _ {w inputs out₀ : List ℕ} {q₀ : State} {out ends : List ℕ} {b i 
         × (getD ends′ t 0 - (i + 1) ≡ cond (has (cellWord w b c 1) (sourceIn w t)) (delayIn w t) (reading (now .readings) t - 1))
     after t l m =
         deadline-left i (has (cellWord w b c 1) (sourceIn w t)) (has (timersIn w b) t) (e t l m) (reading-after w (k .sound) now c n t l m)
-        (reading-left w (k .sound) now c n t l m s) (reading-now t l) (delay-lt w (k .sound) t) (λ g. k .timed .ahead t g .1)
+        (reading-left w (k .sound) now c n t l m s) (reading-now t l) (delay-lt w t) (λ g. k .timed .ahead t g .1)
 
     next-state : stateAt w next ends′ (i + 1) ≡ stateAfterCell w now c
     unfolding stateAfterCell
@@ -168,7 +168,7 @@ module _ {w inputs out₀ : List ℕ} {q₀ : State} {out ends : List ℕ} {b i 
   there = cell-lt w q input (input-below (kIn w) input (p .below))
 
   pub cell-room : cell + 6 ≤ length w
-  cell-room = omega (arith, place-is, cell-inside w h b (k .low) c there)
+  cell-room = omega (arith, place-is, cell-inside w (shape-of w h) b (k .low) c there)
 
   next-is : getD w cell 0 ≡ nextBlock
   unfolding cellWord wordIn
@@ -222,7 +222,7 @@ module _ {w inputs out₀ : List ℕ} {q₀ : State} {out ends : List ℕ} {b i 
       where
         none : (t : ℕ) → t < 64 → T (has nextTimers t) → has entered (sourceIn w t) ≡ false
         none t u m =
-            none-entered w h from timed (v .timersAre) (v .sourcesAre) entered t (timer-lt w h nextBlock low t m u) (delay-pos w h nextBlock low t m u) (ap (λ (x : ℕ). meet x timed) (sym entered-is) ∙ ez)
+            none-entered w h from timed (v .timersAre) (v .sourcesAre) entered t (timer-lt w (shape-of w h) nextBlock low t m u) (delay-pos w (shape-of w h) nextBlock low t m u) (ap (λ (x : ℕ). meet x timed) (sym entered-is) ∙ ez)
 
     -- any other tick: the number and the timers of the next block, and those of them that start again
     module _ {number later again : ℕ} (nu : number ≡ getD w cell 0) (small : later < 2 ^ 64) (le : later ≡ timersIn w number)
@@ -237,7 +237,7 @@ module _ {w inputs out₀ : List ℕ} {q₀ : State} {out ends : List ℕ} {b i 
       again-there t u m =
           let s = setOf 64 (λ u. someIn 32 (meet (getD w (cell + 1) 0) timed) (λ m. has (getD from m 0) u)) in
           rw (ae, has-meet later s t, next-timers, is-true (has nextTimers t) m, entered-is)
-          (started-there w h from timed (v .timersAre) (v .sourcesAre) entered t (timer-lt w h nextBlock low t m u) (delay-pos w h nextBlock low t m u))
+          (started-there w h from timed (v .timersAre) (v .sourcesAre) entered t (timer-lt w (shape-of w h) nextBlock low t m u) (delay-pos w (shape-of w h) nextBlock low t m u))
 
       stale-now : isStale w (stateAfterCell w q c) ≡ not (eqb (minus (minus later again) (minus timers d)) 0)
       stale-now = rw (next-timers, p .running) (stale-is w h q c low (idle k) d due-is again next-fits again-there)
@@ -259,4 +259,4 @@ module _ {w inputs out₀ : List ℕ} {q₀ : State} {out ends : List ℕ} {b i 
           at : (t : ℕ) → t < 64 → T (has nextTimers t) → getD ends′ t 0 ≡ cond (has entered (sourceIn w t)) (i + 1 + delayIn w t) (getD ends t 0)
           at t u m =
               deadline-after again i delays ends ee t u (again-there t u m)
-              (ap (λ (r : List ℕ). getD r t 0) (v .delaysAre) ∙ delay-at w t u (timer-lt w h nextBlock low t m u))
+              (ap (λ (r : List ℕ). getD r t 0) (v .delaysAre) ∙ delay-at w t u (timer-lt w (shape-of w h) nextBlock low t m u))

@@ -16,7 +16,7 @@ use Rattle.meaning.specs.Run.{State, reading, isFresh, readingsOk}
 use Rattle.meaning.specs.Table.{bIn, delayIn, timersIn, tableOk}
 use Rattle.meaning.specs.TableRun.{tableStateOk}
 use Rattle.meaning.proofs.LayoutLaws.{b-pos, timers-first}
-use Rattle.table.proofs.LayoutFacts.{timer-lt}
+use Rattle.table.proofs.LayoutFacts.{shape-of, timer-lt}
 use Rattle.run.proofs.ReadingTests.{readingFits, readings-sound, readings-none, delays-serve}
 use Rattle.recorder.specs.Timers.{timerDelayIn}
 use Rattle.recorder.proofs.TimerLaws.{delay-at}
@@ -47,7 +47,7 @@ module _ (w : List ℕ) (h : T (tableOk w)) (q : State) where
     -- the delays of a block's timers stand among the delays
     pub state-inside : readingsOk timers (λ t. getD (rowFrom 0 64 (timerDelayIn w)) t 0) readings ≡ tableStateOk w q
     state-inside =
-        delays-serve timers (delayIn w) readings (λ t. getD (rowFrom 0 64 (timerDelayIn w)) t 0) (λ t k r. delay-at w t k (timer-lt w h (q .at) l t r k))
+        delays-serve timers (delayIn w) readings (λ t. getD (rowFrom 0 64 (timerDelayIn w)) t 0) (λ t k r. delay-at w t k (timer-lt w (shape-of w h) (q .at) l t r k))
         ∙ readings-decide
 
   -- of a state that is not refused the block is there, and the readings are sound

@@ -4,7 +4,7 @@ use mathlib.Core.Bool.{Bool, true, false, _&&_, _||_, cond}
 use mathlib.Core.List.{List}
 use Prim.Native.Nat.{ℕ, _+_, _^_, _<_}
 use native.Mathlib.Omega.{arith}
-use lib.Dec.{T, eqb, ltb, ltb→lt, lt→ltb}
+use lib.Dec.{eqb, ltb, ltb→lt, lt→ltb}
 use lib.ListN.{getD, set, replicate}
 use borrow.Author.Tests.{lt-ltb, le-ltb, eq-eqb, ne-eqb}
 use Rattle.sets.specs.Sets.{has, union, single, setOf, members, someIn}
@@ -13,7 +13,7 @@ use Rattle.sets.proofs.Membership.{has-none, setOf-ext, setOf-add, setOf-skip}
 use Rattle.sets.proofs.Members.{fold, fold-done}
 use Rattle.sets.proofs.Quantifiers.{has-union-over}
 use Rattle.meaning.specs.Lists.{rowFrom}
-use Rattle.meaning.specs.Table.{tIn, sourceIn, delayIn, tableOk}
+use Rattle.meaning.specs.Table.{tIn, sourceIn, delayIn}
 use Rattle.table.proofs.LayoutFacts.{delay-lt}
 use Rattle.recorder.specs.Timers.{timerDelayIn, timersBelow}
 use Rattle.meaning.proofs.ListLaws.{row-at, rowFrom-ext}
@@ -42,12 +42,12 @@ module _ (w : List ℕ) where
   delay-at t l k = row-at 64 (timerDelayIn w) t l ∙ rw (lt-ltb t (tIn w) k)
 
   -- they are below 65,536
-  pub delays-small : T (tableOk w) → (t : ℕ) → t < 64 → getD (rowFrom 0 64 (timerDelayIn w)) t 0 < 65536
+  pub delays-small : (t : ℕ) → t < 64 → getD (rowFrom 0 64 (timerDelayIn w)) t 0 < 65536
   unfolding timerDelayIn
-  delays-small h t l = subst (λ (x : ℕ). x < 65536) (sym (row-at 64 (timerDelayIn w) t l)) (go (ltb t (tIn w)))
+  delays-small t l = subst (λ (x : ℕ). x < 65536) (sym (row-at 64 (timerDelayIn w) t l)) (go (ltb t (tIn w)))
     where
       go : (b : Bool) → cond b (delayIn w t) 0 < 65536
-      go true = delay-lt w h t
+      go true = delay-lt w t
       go false = omega arith
 
   -- ---- the timers of each source

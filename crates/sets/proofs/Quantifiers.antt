@@ -71,6 +71,15 @@ every-same n p q e =
     (λ h. every-i n q (λ i l. subst T (e i l) (every-e n p h i l)))
     (λ h. every-i n p (λ i l. subst T (sym (e i l)) (every-e n q h i l)))
 
+pub every-both : (n : ℕ) (p q : ℕ → Bool) → every n (λ i. p i && q i) ≡ (every n p && every n q)
+every-both n p q =
+    bool-ext (every n (λ i. p i && q i)) (every n p && every n q)
+    (λ h.
+    let k = every-e n (λ i. p i && q i) h in
+    and-i (every n p) (every n q) (every-i n p (λ i l. and-l (p i) (q i) (k i l))) (every-i n q (λ i l. and-r (p i) (q i) (k i l))))
+    (λ h. every-i n (λ i. p i && q i) (λ i l.
+    and-i (p i) (q i) (every-e n p (and-l (every n p) (every n q) h) i l) (every-e n q (and-r (every n p) (every n q) h) i l)))
+
 -- ---- two sets meet where some number is in both
 
 pub meets-some : (w a b : ℕ) → a < 2 ^ w → meets a b ≡ some w (λ i. has a i && has b i)

@@ -1,4 +1,4 @@
--- A block's tests one by one: what a sound block says, and what each test comes to as the code makes it. Assumes nothing.
+-- A block's tests one by one: what those before its next blocks say, and what each test comes to as the code makes it. Assumes nothing.
 use mathlib.Core.Path.{_≡_, ap, _∙_}
 use mathlib.Core.Bool.{Bool, true, not, _&&_, cond, and-true}
 use mathlib.Core.List.{List}
@@ -7,17 +7,17 @@ use native.Mathlib.Omega.{arith}
 use lib.Dec.{T, eqb, ltb, eqb→eq, leb→le, ltb→lt, lt→ltb}
 use lib.ListN.{getD, take, drop}
 use lib.Seq.{getD-take, getD-drop}
-use borrow.Author.Tests.{le-leb, eq-eqb}
+use borrow.Author.Tests.{le-leb}
 use Rattle.sets.specs.Sets.{has, minus, size, every, everyIn}
 use Rattle.sets.proofs.Tests.{and-l, and-r, and-i, bool-ext}
 use Rattle.sets.proofs.Facts.{setOf-e, setOf-i, everyIn-e, everyIn-i}
 use Rattle.sets.proofs.Quantifiers.{every-same, minus-every}
 use Rattle.meaning.specs.Lists.{allOf}
-use Rattle.meaning.specs.Table.{wordIn, tIn, bIn, delayIn, offsetIn, lengthIn, maskIn, timersIn, cellsIn, cellWord, blockOk}
+use Rattle.meaning.specs.Table.{wordIn, tIn, bIn, delayIn, offsetIn, lengthIn, maskIn, timersIn, cellsIn, cellWord}
 use Rattle.meaning.proofs.ListLaws.{allOf-e}
-use Rattle.table.specs.Parts.{delayedIn, nextOk}
+use Rattle.table.specs.Parts.{delayedIn, nextOk, blockHeadOk, nextBlocksOk}
 
--- ---- what a sound block says
+-- ---- what a block says that is sound but for its next blocks
 
 module _ (w : List ℕ) (b : ℕ) where
   -- the mask is not 0; block 0 has mask 0 and no timers
@@ -27,35 +27,30 @@ module _ (w : List ℕ) (b : ℕ) where
   abbrev pub timersTest : Bool
   timersTest = everyIn 64 (timersIn w b) (λ t. ltb t (tIn w) && ltb 0 (delayIn w t))
 
-  abbrev pub nextTest : ℕ → Bool
-  nextTest c = ltb 0 (cellWord w b c 0) && ltb (cellWord w b c 0) (bIn w)
-
-pub record BlockSound (w : List ℕ) (b : ℕ) : Type 0 where
+pub record BlockHead (w : List ℕ) (b : ℕ) : Type 0 where
   pub mask : T (maskTest w b)
   pub few : size 64 (timersIn w b) ≤ 6
   pub timers : T (timersTest w b)
   pub length-is : lengthIn w b ≡ 3 + 6 * cellsIn w b
-  pub next : T (every (cellsIn w b) (nextTest w b))
 
-pub block-of : (w : List ℕ) (b : ℕ) → T (blockOk w b) → BlockSound w b
-unfolding blockOk
-block-of w b h =
+pub block-head-of : (w : List ℕ) (b : ℕ) → T (blockHeadOk w b) → BlockHead w b
+unfolding blockHeadOk
+block-head-of w b h =
     let r = allOf-e _ h in
     record {
       mask = r .0;
       few = leb→le (size 64 (timersIn w b)) 6 (r .1 .0);
       timers = r .1 .1 .0;
       length-is = eqb→eq (lengthIn w b) (3 + 6 * cellsIn w b) (r .1 .1 .1 .0);
-      next = r .1 .1 .1 .1 .0;
     }
 
 -- where all its tests but the last have passed
-pub block-is : (w : List ℕ) (b : ℕ) → maskTest w b ≡ true → size 64 (timersIn w b) ≤ 6 → timersTest w b ≡ true → lengthIn w b ≡ 3 + 6 * cellsIn w b
-    → blockOk w b ≡ every (cellsIn w b) (nextTest w b)
-unfolding blockOk allOf
-block-is w b m s t l =
-    rw (m, le-leb (size 64 (timersIn w b)) 6 s, t, eq-eqb (lengthIn w b) (3 + 6 * cellsIn w b) l)
-    (and-true (every (cellsIn w b) (nextTest w b)))
+pub block-head-is : (w : List ℕ) (b : ℕ) → maskTest w b ≡ true → size 64 (timersIn w b) ≤ 6 → timersTest w b ≡ true
+    → blockHeadOk w b ≡ eqb (lengthIn w b) (3 + 6 * cellsIn w b)
+unfolding blockHeadOk allOf
+block-head-is w b m s t =
+    rw (m, le-leb (size 64 (timersIn w b)) 6 s, t)
+    (and-true (eqb (lengthIn w b) (3 + 6 * cellsIn w b)))
 
 -- ---- the tests as the code makes them
 
@@ -79,13 +74,14 @@ timers-test w b s d m l hs hd hm =
 
 -- the cells stand in a part of the table, from the block's word 3 on
 pub next-in-part : (w : List ℕ) (b at count n : ℕ) → at ≡ offsetIn w b → count ≡ cellsIn w b → 6 * count ≤ n
-    → every count (nextOk (take n (drop (at + 3) w)) (bIn w)) ≡ every (cellsIn w b) (nextTest w b)
-unfolding nextOk cellWord wordIn
+    → every count (nextOk (take n (drop (at + 3) w)) (bIn w)) ≡ nextBlocksOk w b
+unfolding nextOk nextBlocksOk cellWord wordIn
 next-in-part w b at count n ha hc h =
-    every-same count (nextOk (take n (drop (at + 3) w)) (bIn w)) (nextTest w b) (λ c l.
+    let test : ℕ → Bool = λ c. ltb 0 (cellWord w b c 0) && ltb (cellWord w b c 0) (bIn w) in
+    every-same count (nextOk (take n (drop (at + 3) w)) (bIn w)) test (λ c l.
     let e : getD (take n (drop (at + 3) w)) (6 * c) 0 ≡ getD w (offsetIn w b + 3 + 6 * c + 0) 0 =
     getD-take n (drop (at + 3) w) (6 * c) 0 (omega arith)
     ∙ getD-drop (at + 3) w (6 * c) 0
     ∙ ap (λ (i : ℕ). getD w i 0) (omega arith) in
     ap (λ (x : ℕ). ltb 0 x && ltb x (bIn w)) e)
-    ∙ ap (λ (i : ℕ). every i (nextTest w b)) hc
+    ∙ ap (λ (i : ℕ). every i test) hc

@@ -6,7 +6,7 @@ ghost use lib.Dec.{T, eqb};
 ghost use lib.ListN.{length};
 ghost use Rattle.sets.specs.Sets.{every};
 ghost use Rattle.meaning.specs.Table.{bIn, wordIn, blockOk};
-ghost use Rattle.table.specs.Parts.{tableHeadOk, tablePairsOk, delayedIn, nextOk};
+ghost use Rattle.table.specs.Parts.{tableHeadOk, tablePairsOk, delayedIn, nextOk, blockHeadOk, nextBlocksOk};
 use super::words::block_count;
 use super::words::block_length;
 use super::words::cell_count;
@@ -62,13 +62,13 @@ fn mask_ok(table: &[u32], b: usize, offset: usize, timers: u64) -> bool
     table[offset] != 0
 }
 
-// Block b is as it must be; all blocks stand in their places.
-fn block_ok(table: &[u32], with_delay: u64, b: usize) -> bool
+// Block b is as it must be but for its next blocks; all blocks stand in their places.
+fn block_head_ok(table: &[u32], with_delay: u64, b: usize) -> bool
     requires { ⌜ T (tableHeadOk (now table))
         × T (tablePairsOk (now table))
         × («with_delay» ≡ delayedIn (now table))
         × (b < bIn (now table)) ⌝ }
-    ensures { λ r. ⌜ r ≡ blockOk (now (table .entry)) b ⌝ }
+    ensures { λ r. ⌜ r ≡ blockHeadOk (now (table .entry)) b ⌝ }
 {
     let at = offset(table, b);
     let size = block_length(table, b);
@@ -80,11 +80,48 @@ fn block_ok(table: &[u32], with_delay: u64, b: usize) -> bool
     if !mask_ok(table, b, at, timers) || 6 < a || transitions::minus(timers, with_delay) != 0 {
         return false;
     }
-    let count = cell_count(a, event_count(table));
-    if size != 3 + 6 * count {
-        return false;
+    size == 3 + 6 * cell_count(a, event_count(table))
+}
+
+// The next blocks of block b, which is as it must be but for them.
+pub fn next_blocks_ok(table: &[u32], b: usize) -> bool
+    requires { ⌜ T (tableHeadOk (now table))
+        × T (tablePairsOk (now table))
+        × (b < bIn (now table))
+        × T (blockHeadOk (now table) b) ⌝ }
+    ensures { λ r. ⌜ r ≡ nextBlocksOk (now (table .entry)) b ⌝ }
+{
+    let at = offset(table, b);
+    let size = block_length(table, b);
+    cells_ok(&table[at + 3..at + size], (size - 3) / 6, table[3])
+}
+
+// Block b is as it must be; all blocks stand in their places.
+fn block_ok(table: &[u32], with_delay: u64, b: usize) -> bool
+    requires { ⌜ T (tableHeadOk (now table))
+        × T (tablePairsOk (now table))
+        × («with_delay» ≡ delayedIn (now table))
+        × (b < bIn (now table)) ⌝ }
+    ensures { λ r. ⌜ r ≡ blockOk (now (table .entry)) b ⌝ }
+{
+    block_head_ok(table, with_delay, b) && next_blocks_ok(table, b)
+}
+
+// Every block is as it must be but for next blocks; all blocks stand in their places.
+pub fn block_heads_ok(table: &[u32]) -> bool
+    requires { ⌜ T (tableHeadOk (now table)) × T (tablePairsOk (now table)) ⌝ }
+    ensures { λ r. ⌜ r ≡ every (bIn (now (table .entry))) (blockHeadOk (now (table .entry))) ⌝ }
+{
+    let count = block_count(table);
+    let with_delay = delayed(table);
+    let mut b = 0;
+    while b < count {
+        if !block_head_ok(table, with_delay, b) {
+            return false;
+        }
+        b += 1;
     }
-    cells_ok(&table[at + 3..at + size], count, table[3])
+    true
 }
 
 // Every block is as it must be; all blocks stand in their places.

@@ -5,7 +5,7 @@ ghost use lib.Dec.{T, eqb, ltb};
 ghost use Prim.Native.Nat.{_/_, _%_};
 ghost use Rattle.sets.specs.Sets.{every};
 ghost use Rattle.meaning.specs.Table.{tIn, timerOk, tableOk};
-ghost use Rattle.table.specs.Parts.{tableHeadOk, tablePairsOk};
+ghost use Rattle.table.specs.Parts.{tableHeadOk, tablePairsOk, preambleOk, shapeOk, nextsOk};
 
 mod blocks;
 pub mod words;
@@ -68,12 +68,42 @@ fn pairs_ok(table: &[u32]) -> bool
     end == table.len()
 }
 
+// What stands before the blocks: the head, the timer words and the pairs.
+fn preamble_ok(table: &[u32]) -> bool
+    ensures { λ r. ⌜ r ≡ preambleOk (now (table .entry)) ⌝ }
+{
+    if !head_ok(table) {
+        return false;
+    }
+    timers_ok(table) && pairs_ok(table)
+}
+
+// The table's layout is sound but for next blocks. Any list of words is answered.
+pub fn shape_ok(table: &[u32]) -> bool
+    ensures { λ r. ⌜ r ≡ shapeOk (now (table .entry)) ⌝ }
+{
+    preamble_ok(table) && blocks::block_heads_ok(table)
+}
+
+// The next blocks of a table whose layout is sound but for them.
+pub fn nexts_ok(table: &[u32]) -> bool
+    requires { ⌜ T (shapeOk (now table)) ⌝ }
+    ensures { λ r. ⌜ r ≡ nextsOk (now (table .entry)) ⌝ }
+{
+    let count = block_count(table);
+    let mut b = 0;
+    while b < count {
+        if !blocks::next_blocks_ok(table, b) {
+            return false;
+        }
+        b += 1;
+    }
+    true
+}
+
 // The table's layout is sound; 15 if not. Any list of words is answered.
 pub fn table_ok(table: &[u32]) -> bool
     ensures { λ r. ⌜ r ≡ tableOk (now (table .entry)) ⌝ }
 {
-    if !head_ok(table) || !timers_ok(table) || !pairs_ok(table) {
-        return false;
-    }
-    blocks::blocks_ok(table)
+    preamble_ok(table) && blocks::blocks_ok(table)
 }

@@ -10,7 +10,7 @@ use Rattle.sets.proofs.Tests.{of-true}
 use Rattle.meaning.specs.Run.{State, readingsOk}
 use Rattle.meaning.specs.Table.{bIn, tableOk}
 use Rattle.run.specs.States.{stateOf}
-use Rattle.table.proofs.LayoutFacts.{head-sound}
+use Rattle.table.proofs.LayoutFacts.{shape-of, head-sound}
 use Rattle.recorder.proofs.BlockPlaceLaws.{header-inside, timers-are}
 use Rattle.recorder.proofs.TableStateLaws.{state-outside, state-inside}
 use Rattle.recorder.proofs.state.state_ok.Statement.{statement}
@@ -38,7 +38,7 @@ cast-b : tie.Need-cast-b
 cast-b c = search needs
 
 block-count-requires : tie.Need-block-count-requires
-block-count-requires c κs = head-sound _ (sound (c .before))
+block-count-requires c κs = head-sound _ (shape-of _ (sound (c .before)))
 
 returns : tie.Need-returns
 returns c =
@@ -46,7 +46,7 @@ returns c =
     state-outside (s .args .table .now) (sound s) (state s) (omega (arith, c .before .block-count .ensures))
 
 offset-requires : tie.Need-offset-requires
-offset-requires c κs = (head-sound _ (sound (entry (c .before))), inside c)
+offset-requires c κs = (head-sound _ (shape-of _ (sound (entry (c .before)))), inside c)
 
 timers-at-requires : tie.Need-timers-at-requires
 timers-at-requires c κs =

@@ -3,13 +3,13 @@ use mathlib.Core.Path.{refl, ap, _∙_}
 use Prim.Native.Nat.{ℕ, _+_}
 use native.Mathlib.Omega.{arith}
 use Rattle.sets.proofs.Tests.{of-true}
-use Rattle.table.proofs.LayoutFacts.{head-sound}
+use Rattle.table.proofs.LayoutFacts.{shape-of, head-sound}
 use Rattle.recorder.proofs.BlockPlaceLaws.{header-inside, timers-are}
 use Rattle.recorder.proofs.table_run.block_at.Statement.{statement}
 use Rattle.recorder.proofs.table_run.block_at.Tie as tie
 
 offset-requires : tie.Need-offset-requires
-offset-requires c κs = (head-sound _ (of-true (c .before .pre .0)), c .before .pre .1)
+offset-requires c κs = (head-sound _ (shape-of _ (of-true (c .before .pre .0))), c .before .pre .1)
 
 add-t4 : tie.Need-add-t4
 add-t4 c =

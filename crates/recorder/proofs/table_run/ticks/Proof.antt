@@ -17,7 +17,7 @@ use Rattle.meaning.specs.Table.{timersIn}
 use Rattle.meaning.specs.Run.{State}
 use Rattle.run.specs.States.{stateOf}
 use Rattle.run.proofs.LoopLaws.{input-below, later, ends-done, ends-foreign}
-use Rattle.table.proofs.LayoutFacts.{head-sound, k-le}
+use Rattle.table.proofs.LayoutFacts.{shape-of, head-sound, k-le}
 use Rattle.recorder.specs.declared.table_run.TableBlock.{TableBlock}
 use Rattle.recorder.specs.Runs.{TableBlockOf}
 use Rattle.recorder.proofs.TimerLaws.{delays-small}
@@ -131,7 +131,7 @@ room c = let s = start (head c) in (cell-room (chosen c), omega (arith, s .good 
 -- ---- the needs
 
 event-count-requires : tie.Need-event-count-requires Inv-loop μ-loop
-event-count-requires c κs = head-sound _ (of-true (c .before .before .before .pre .0))
+event-count-requires c κs = head-sound _ (shape-of _ (of-true (c .before .before .before .pre .0)))
 
 timers-from-requires : tie.Need-timers-from-requires Inv-loop μ-loop
 timers-from-requires c κs = entry c .pre .0
@@ -172,7 +172,7 @@ shared-slice-read-input : tie.Need-shared-slice-read-input Inv-loop μ-loop
 shared-slice-read-input c = search needs
 
 shr-if1 : tie.Need-shr-if1 Inv-loop μ-loop
-shr-if1 c = let v = c .before .before .loop .inv .0 in omega (arith, v .eventsAre, k-le _ (v .sound))
+shr-if1 c = let v = c .before .before .loop .inv .0 in omega (arith, v .eventsAre, k-le _ (shape-of _ (v .sound)))
 
 ended-requires : tie.Need-ended-requires Inv-loop μ-loop
 ended-requires c κs = not-past (c .before .before .before .before)
@@ -202,7 +202,7 @@ cell-number-requires c κs =
     let known = c .before .before in
     let inv = inside known .before .loop .inv in (
       number-small (inv .1) (inv .2 .1) (c .due .result .set) (c .due .ensures .1),
-      omega (arith, inv .0 .eventsAre, k-le _ (inv .0 .sound)),
+      omega (arith, inv .0 .eventsAre, k-le _ (shape-of _ (inv .0 .sound))),
       input-below _ _ (known .if1 .left),
     )
 
@@ -265,7 +265,7 @@ restart-requires c κs =
     let inv = head cell .loop .inv in (
       inv .1 .timed .long,
       omega (arith, short (inside (below cell))),
-      λ t l. omega (arith, ap (λ (r : List ℕ). getD r t 0) (inv .0 .delaysAre), delays-small _ (inv .0 .sound) t l),
+      λ t l. omega (arith, ap (λ (r : List ℕ). getD r t 0) (inv .0 .delaysAre), delays-small (start (head cell) .args .table .now) t l),
     )
 
 mul-put-five : tie.Need-mul-put-five Inv-loop μ-loop

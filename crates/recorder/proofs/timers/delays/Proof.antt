@@ -6,7 +6,7 @@ use native.Mathlib.Nat.{le-antisymm}
 use native.Mathlib.Omega.{arith}
 use Rattle.sets.proofs.Tests.{of-true}
 use Rattle.meaning.specs.Lists.{rowFrom}
-use Rattle.table.proofs.LayoutFacts.{head-sound, t-le}
+use Rattle.table.proofs.LayoutFacts.{shape-of, head-sound, t-le}
 use Rattle.recorder.specs.Timers.{timerDelayIn}
 use Rattle.recorder.proofs.TimerLaws.{delaysBelow, delays-start, delays-turn}
 use Rattle.recorder.proofs.timers.delays.Statement.{statement}
@@ -19,17 +19,17 @@ abbrev μ-loop : tie.MeasureT-loop
 μ-loop table count r₀ t₀ r t = count - t
 
 transition-count-requires : tie.Need-transition-count-requires Inv-loop μ-loop
-transition-count-requires c κs = head-sound _ (of-true (c .before .pre))
+transition-count-requires c κs = head-sound _ (shape-of _ (of-true (c .before .pre)))
 
 loop-holds : tie.Need-loop-holds Inv-loop μ-loop
 loop-holds c =
     let s = c .before .before in
-    (omega arith, omega (arith, t-le (s .args .table .now) (of-true (s .pre))), delays-start (s .args .table .now))
+    (omega arith, omega (arith, t-le _ (shape-of _ (of-true (s .pre)))), delays-start (s .args .table .now))
 
 timer-delay-requires : tie.Need-timer-delay-requires Inv-loop μ-loop
 timer-delay-requires c κs =
     let s = c .before .before .before .before in
-    (head-sound (s .args .table .now) (of-true (s .pre)), search needs)
+    (head-sound _ (shape-of _ (of-true (s .pre))), search needs)
 
 mul-r : tie.Need-mul-r Inv-loop μ-loop
 mul-r c = search needs

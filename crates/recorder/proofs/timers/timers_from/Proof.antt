@@ -7,7 +7,7 @@ use native.Mathlib.Nat.{le-antisymm}
 use native.Mathlib.Omega.{arith}
 use Rattle.sets.proofs.Tests.{of-true}
 use Rattle.meaning.specs.Lists.{rowFrom}
-use Rattle.table.proofs.LayoutFacts.{head-sound, t-le, source-lt}
+use Rattle.table.proofs.LayoutFacts.{shape-of, head-sound, t-le, source-lt}
 use Rattle.recorder.specs.Timers.{timersBelow, timersFrom}
 use Rattle.recorder.proofs.TimerLaws.{timers-start, timers-skip, timers-add}
 use Rattle.recorder.proofs.timers.timers_from.Statement.{statement}
@@ -27,22 +27,22 @@ abbrev head : tie.After-timer-delay Inv-loop μ-loop → tie.At-loop Inv-loop μ
 head c = c .before .before
 
 transition-count-requires : tie.Need-transition-count-requires Inv-loop μ-loop
-transition-count-requires c κs = head-sound _ (of-true (c .before .pre))
+transition-count-requires c κs = head-sound _ (shape-of _ (of-true (c .before .pre)))
 
 loop-holds : tie.Need-loop-holds Inv-loop μ-loop
 loop-holds c =
     let s = entry c in
-    (omega arith, omega (arith, t-le (s .args .table .now) (of-true (s .pre))), timers-start (s .args .table .now))
+    (omega arith, omega (arith, t-le _ (shape-of _ (of-true (s .pre)))), timers-start (s .args .table .now))
 
 timer-delay-requires : tie.Need-timer-delay-requires Inv-loop μ-loop
 timer-delay-requires c κs =
     let s = entry (c .before .before) in
-    (head-sound (s .args .table .now) (of-true (s .pre)), search needs)
+    (head-sound _ (shape-of _ (of-true (s .pre))), search needs)
 
 timer-source-requires : tie.Need-timer-source-requires Inv-loop μ-loop
 timer-source-requires c κs =
     let s = entry (head (c .before) .before) in
-    (head-sound (s .args .table .now) (of-true (s .pre)), search needs)
+    (head-sound _ (shape-of _ (of-true (s .pre))), search needs)
 
 -- the source of a timer is a mode
 source-small : (c : tie.After-timer-source Inv-loop μ-loop) → c .timer-source .result < 32
@@ -53,7 +53,7 @@ source-small c =
     omega (
       arith,
       c .timer-source .ensures,
-      source-lt (s .args .table .now) (of-true (s .pre)) (at .loop .t) (omega (arith, at .before .transition-count .ensures)) (omega (arith, delay .timer-delay .ensures)),
+      source-lt _ (shape-of _ (of-true (s .pre))) (at .loop .t) (omega (arith, at .before .transition-count .ensures)) (omega (arith, delay .timer-delay .ensures)),
     )
 
 mul-r : tie.Need-mul-r Inv-loop μ-loop
