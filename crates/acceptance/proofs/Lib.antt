@@ -1,2 +1,4 @@
 pub mod CellLaws
 pub mod RowLaws
+pub mod MaskLaws
+pub mod WordLaws

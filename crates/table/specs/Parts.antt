@@ -47,9 +47,13 @@ blockHeadOk w b =
     ∷ eqb (lengthIn w b) (3 + 6 * cellsIn w b)
     ∷ [])
 
+-- the next block of cell c of block b is there
+abbrev pub nextThere : List ℕ → ℕ → ℕ → Bool
+nextThere w b c = ltb 0 (cellWord w b c 0) && ltb (cellWord w b c 0) (bIn w)
+
 -- the next blocks of block b
 unfoldable pub nextBlocksOk : List ℕ → ℕ → Bool
-nextBlocksOk w b = every (cellsIn w b) (λ c. ltb 0 (cellWord w b c 0) && ltb (cellWord w b c 0) (bIn w))
+nextBlocksOk w b = every (cellsIn w b) (nextThere w b)
 
 -- the layout but for next blocks
 unfoldable pub shapeOk : List ℕ → Bool
