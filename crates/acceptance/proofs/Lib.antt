@@ -1,4 +1,5 @@
 pub mod CellLaws
+pub mod HeadLaws
 pub mod RowLaws
 pub mod MaskLaws
 pub mod WordLaws
