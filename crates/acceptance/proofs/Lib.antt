@@ -1,5 +1,5 @@
 pub mod CellLaws
-pub mod HeadLaws
 pub mod RowLaws
 pub mod MaskLaws
 pub mod WordLaws
+pub mod HeadLaws
