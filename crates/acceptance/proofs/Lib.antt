@@ -3,3 +3,5 @@ pub mod RowLaws
 pub mod MaskLaws
 pub mod WordLaws
 pub mod HeadLaws
+pub mod AcceptLaws
+pub mod ContractLaws

@@ -1,5 +1,5 @@
--- Demand 3 of the operations: by their contracts, what the calls return and leave is what `compile` and `runsFrom` give, and of these the
--- whole-list theorem speaks. Assumes nothing.
+-- Demand 3 of the operations: by their contracts, what the calls return and leave is what `compile`, `acceptRefusal` and `runsFrom` give.
+-- A table that compile made is accepted for its sheet, and an accepted table runs as its sheet does. Assumes nothing.
 use mathlib.Core.Path.{_≡_, refl, sym, ap, ap₂, _∙_, subst}
 use mathlib.Core.List.{List, [], _∷_, map}
 use Prim.Native.Nat.{ℕ}
@@ -8,12 +8,16 @@ use denote.Ref.{now}
 use Rattle.meaning.specs.Run.{State, powerOn, Run}
 use Rattle.meaning.specs.TableRun.{tableRun}
 use Rattle.meaning.specs.Compile.{Compiled, compile}
-use Rattle.meaning.specs.WholeList.{runsFrom, Served, WholeList}
-use Rattle.meaning.proofs.Theorem.{whole-list}
+use Rattle.meaning.specs.Refusal.{numberOf}
+use Rattle.meaning.specs.WholeList.{runsFrom, Served}
+use Rattle.meaning.specs.Acceptance.{acceptRefusal, Accepted, AcceptedServes, CompiledAccepted}
+use Rattle.meaning.proofs.Theorem.{accepted-serves, compiled-accepted}
 use Rattle.run.specs.States.{stateOf}
 use Rattle.compiler.proofs.ContractLaws.{compile-tells}
+use Rattle.acceptance.proofs.ContractLaws.{accept-tells}
 use Rattle.recorder.proofs.ContractLaws.{run-tells}
-use Rattle.whole_list.specs.Demand3.{sheetWords, tableWords, RunCall, tableGot, stateGot, callOf, runOf, OneAfterOther, Demand3}
+use Rattle.whole_list.specs.Demand3.{CompileCall, sheetWords, tableWords, AcceptCall, sheetChecked, tableChecked}
+use Rattle.whole_list.specs.Demand3.{RunCall, tableGot, stateGot, callOf, runOf, OneAfterOther, Demand3, AcceptedDemand3, CompileIsAccepted}
 
 -- one call of the table run
 call-is : (c : RunCall) → runOf c ≡ tableRun (tableGot c) (stateGot c) (callOf c .inputs) (callOf c .out)
@@ -35,15 +39,36 @@ calls-are t q (c ∷ cs) h =
     ap₂ (λ (r : Run) (rs : List Run). r ∷ rs) first
     (calls-are t (stateOf (c .returned .state)) cs (h .2) ∙ ap (λ (p : State). runsFrom t p (map callOf cs)) state)
 
-pub demand-3 : Demand3
-unfolding Demand3 WholeList sheetWords tableWords
-demand-3 c accepted cs chained =
+-- on an accepted table, from the fresh state
+calls-served : (s t : List ℕ) → Accepted s t → (cs : List RunCall) → OneAfterOther t powerOn cs → Served s t (map callOf cs) (map runOf cs)
+unfolding AcceptedServes
+calls-served s t accepted cs chained =
+    subst (λ (rs : List Run). Served s t (map callOf cs) rs) (sym (calls-are t powerOn cs chained)) (accepted-serves s t accepted (map callOf cs))
+
+-- one call of compile that refused nothing
+compile-accepted : (c : CompileCall) → numberOf (c .returned .refusal) ≡ 0 → Accepted (sheetWords c) (tableWords c)
+unfolding CompiledAccepted sheetWords tableWords
+compile-accepted c passed =
     let sheet = now (c .lent .0) in
     let table = now (c .lent .1 .0) in
     let work = now (c .lent .1 .1 .0) in
-    let o = compile sheet table work in
     let told = compile-tells (c .lifetimes) (c .lent) (c .returned) (c .left) (c .contract) in
-    let words : take (o .tableLength) (o .table) ≡ tableWords c = ap (λ (x : Compiled). take (x .tableLength) (x .table)) (sym told) in
-    let served = whole-list sheet table work (ap (λ (x : Compiled). x .refusal) (sym told) ∙ accepted) (map callOf cs) in
-    subst (λ (rs : List Run). Served (sheetWords c) (tableWords c) (map callOf cs) rs) (sym (calls-are (tableWords c) powerOn cs chained))
-    (subst (λ (t : List ℕ). Served (sheetWords c) t (map callOf cs) (runsFrom t powerOn (map callOf cs))) words served)
+    ap (λ (x : Compiled). acceptRefusal sheet (take (x .tableLength) (x .table))) told
+    ∙ compiled-accepted sheet table work (ap (λ (x : Compiled). x .refusal) (sym told) ∙ passed)
+
+-- one check of a table
+check-is : (c : AcceptCall) → numberOf (c .returned) ≡ acceptRefusal (sheetChecked c) (tableChecked c)
+unfolding sheetChecked tableChecked
+check-is c = accept-tells (c .lifetimes) (c .lent) (c .returned) (c .left) (c .contract)
+
+pub demand-3 : Demand3
+unfolding Demand3
+demand-3 c passed = calls-served (sheetWords c) (tableWords c) (compile-accepted c passed)
+
+pub accepted-demand-3 : AcceptedDemand3
+unfolding AcceptedDemand3
+accepted-demand-3 c passed = calls-served (sheetChecked c) (tableChecked c) (sym (check-is c) ∙ passed)
+
+pub compile-is-accepted : CompileIsAccepted
+unfolding CompileIsAccepted
+compile-is-accepted c passed a sheet table = check-is a ∙ ap₂ acceptRefusal sheet table ∙ compile-accepted c passed

@@ -1,2 +1,2 @@
-// Demand 3 of the operations `compiler::compile` and `recorder::table_run::run`: a statement in specs/Demand3.antt and its proof. There
-// is no code.
+// Demand 3 of the operations `compiler::compile`, `acceptance::accept` and `recorder::table_run::run`: statements in specs/Demand3.antt
+// and their proofs. There is no code.
