@@ -165,7 +165,21 @@ TABLES = [
     ("the last cell's next block is 0", 15, example({63: 0})),
     ("the last cell's next block is B", 15, example({63: 3})),
     ("the last cell's next block is 2^32 - 1", 15, example({63: TOP})),
-    # at a tick: a next timer has no reading left and was not entered
+    # lengths of the slice
+    ("no word", 15, []),
+    ("three words", 15, EXAMPLE[:3]),
+    ("the head alone", 15, EXAMPLE[:4]),
+    ("the head and the timer words", 15, EXAMPLE[:6]),
+    ("the pairs' last word is missing", 15, EXAMPLE[:11]),
+    ("the only pair is missing", 15, [1, 0, 2, 1, TICK, TICK]),
+    ("the only pair's last word is missing", 15, [1, 0, 2, 1, TICK, TICK, 8]),
+    ("the blocks are missing", 15, EXAMPLE[:12]),
+    ("one word short", 15, example({}, 68)),
+    ("one word more", 15, example({}, 70)),
+]
+
+# the same, of sound layout: at a tick a next timer has no reading left and was not entered, or just not that
+LAPSES = [
     ("a due timer's source is entered again, each time", 0, lapsing(8)),
     ("a due timer's source is not entered: 15 at the third tick", 15, lapsing(0)),
     ("another mode than the due timer's source is entered", 15, lapsing(TOP - 8)),
@@ -183,17 +197,6 @@ TABLES = [
      table(0, [timer(31, 3)], block(0, 0, cell(1, 2 ** 31)), block(1, 1, cell(1), cell(1)))),
     ("block 2 of the example is reached without entering the timer's source", 15, example({37: 3})),
     ("the example's due timer stays, unentered", 15, example({58: 0, 57: 2})),
-    # lengths of the slice
-    ("no word", 15, []),
-    ("three words", 15, EXAMPLE[:3]),
-    ("the head alone", 15, EXAMPLE[:4]),
-    ("the head and the timer words", 15, EXAMPLE[:6]),
-    ("the pairs' last word is missing", 15, EXAMPLE[:11]),
-    ("the only pair is missing", 15, [1, 0, 2, 1, TICK, TICK]),
-    ("the only pair's last word is missing", 15, [1, 0, 2, 1, TICK, TICK, 8]),
-    ("the blocks are missing", 15, EXAMPLE[:12]),
-    ("one word short", 15, example({}, 68)),
-    ("one word more", 15, example({}, 70)),
 ]
 
 # a name, the refusal, the table, the state, the input sets, the output words
@@ -225,7 +228,7 @@ RUNS = [
 
 def stream():
     """Name, refusal, and the numbers of each case: the table where it is another one, and a run."""
-    for name, refusal, words in TABLES:
+    for name, refusal, words in TABLES + LAPSES:
         inputs = [0, 1, 0, 0, 1, 1] if words[1:2] == [1] else [0] * 6
         yield name, refusal, bringing(words) + running_case(FRESH, inputs, 30)
     for name, refusal, words, state, inputs, outputs in RUNS:

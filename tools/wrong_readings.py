@@ -42,7 +42,7 @@ FUNCTIONS = """
     sheet_tick run_sheet cell_tick cell_numbers compile_sheet table_words table_layout_ok block_at timers_of delay_of
     cell_at table_tick run_table""".split()
 ELSEWHERE = {"ages", "aged", "somewhere"}           # names of requests that have not landed
-ADDED = ["within_masks", "milliseconds"]
+ADDED = ["within_masks", "milliseconds", "check_table", "table_is_true"]
 CALLED = {"modechart.py": ["State", "check", "compile_sheet", "run_sheet", "run_table"], "asks.py": ADDED}
 LARGE = 1.0                 # seconds from which a part of the cases is left out for forced readings
 
@@ -57,6 +57,7 @@ BEGIN = "react(chart, modes, readings, given, entered, exited, active, taken, ed
 EQUAL = "two eligible ones in conflict have equal meeting modes (ConflictIsEqual)"
 CONFLICT = "ma == mb or chart.contains(ma, mb) or chart.contains(mb, ma)"
 ROUND = "Round(triggered, gave_way, eligible)"
+FIRST = "masks[0] != 0 or timers_of(table, 0)"
 FORCED = {
     ORDERED: [
         ("terms_ok", "kind == 3", "kind <= 3"), ("terms_ok", "kind == 6", "kind <= 6"),
@@ -81,7 +82,8 @@ FORCED = {
     "a record of 4 words or more has a pair": [("terms_ok", "len(tr.terms) == 1", "len(tr.terms) <= 1")],
     "a set of the members of a list is not larger than the list": [
         ("parse", "len(set(ends)) != len(ends)", "len(set(ends)) < len(ends)"),
-        ("Chart.consistent", "len(inside) != len(self.children(m))", "len(inside) < len(self.children(m))")],
+        ("Chart.consistent", "len(inside) != len(self.children(m))", "len(inside) < len(self.children(m))"),
+        ("table_is_true", "len(set(masks)) != B", "len(set(masks)) < B")],
     "an atomic mode contains nothing, so it is no meeting mode": [
         ("ends_ok", "chart.kind[chart.meeting(s, t)] == 1", "chart.kind[chart.meeting(s, t)] <= 1")],
     "of two ors next to each other one has the other after it and one has the other before it": [
@@ -149,6 +151,12 @@ FORCED = {
         ("table_layout_ok", "offset + length", "end + length"),
         ("table_layout_ok", "offset:offset + 3", "end:offset + 3"),
         ("table_layout_ok", "offset + 3", "end + 3"), ("table_layout_ok", "offset + 3", "end + 3", 2)],
+    "by its layout block 0 has no mask and no timers": [
+        ("table_is_true", FIRST, "False"), ("table_is_true", FIRST, "timers_of(table, 0)"),
+        ("table_is_true", FIRST, "masks[0] != 0"), ("table_is_true", FIRST, FIRST.replace("or", "and")),
+        ("table_is_true", "masks[0] != 0", "masks[0] < 0")],
+    "with a smaller T there are fewer timer words, with a smaller k the last cell would lie past the table's end": [
+        ("table_is_true", "(k, T) != (chart.k, chart.T)", "(k, T) > (chart.k, chart.T)")],
     "each block lies within the words": [("table_layout_ok", "end == len(table)", "end >= len(table)")],
 }
 
@@ -172,17 +180,16 @@ FORCED_BY_HAND = {
 
 # ---------------------------------------------------------------- the cases
 
-def parts():
-    """The stored cases in parts that need nothing of each other: a sheet or a table brought, and what follows."""
+def cases():
+    """The stored cases: number, its numbers, and its line, if it has one."""
     with open(os.path.join(STORED, "stdin")) as file:
         numbers = list(map(int, file.read().split()))
     with open(os.path.join(STORED, "stdout")) as file:
-        lines = [line.rstrip("\n") for line in file]
-    found, at, answered = [], 0, 0
+        lines = iter(file.read().splitlines())
+    at = 0
     while numbers[at] != 0:
         case, start = numbers[at], at
         if case in (1, 24):
-            found.append(([], []))
             at += 2 + numbers[at + 1]
         elif case in (2, 4):
             at += 3 + 2 * numbers[at + 2]
@@ -190,13 +197,22 @@ def parts():
         elif case == 17:
             at += 4 + numbers[at + 2]
         else:
-            at += {3: 3, 5: 3, 6: 2, 13: 1}[case]
-        found[-1][0].extend(numbers[start:at])
-        if case in (1, 2, 3, 4, 13, 17):
-            found[-1][1].append(lines[answered])
-            answered += 1
-    assert answered == len(lines)
-    return found
+            at += {3: 3, 5: 3, 6: 2, 13: 1, 14: 1}[case]
+        yield case, numbers[start:at], [] if case in (5, 6, 24) else [next(lines)]
+    assert next(lines, None) is None
+
+
+def parts():
+    """The stored cases in parts that need nothing of each other: a sheet or a table brought, and what follows. A table that is
+    checked against the sheet is in the sheet's part."""
+    found, checked = [], False
+    for case, numbers, lines in reversed(list(cases())):
+        if not found or ends:
+            found.append(([], []))
+        found[-1][0][:0], found[-1][1][:0] = numbers, lines
+        checked = case == 14 or checked and case != 1
+        ends = case == 1 or case == 24 and not checked
+    return found[::-1]
 
 
 def digest(words):

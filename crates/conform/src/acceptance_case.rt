@@ -4,7 +4,7 @@ use acceptance::accept;
 use meaning::refusal::number;
 
 // Case 14: the current table against the current sheet.
-pub fn check(sheet: &[u32], table: &[u32]) {
+pub fn accept_table(sheet: &[u32], table: &[u32]) {
     let mut line = [0u8; 4096];
     let why = accept(sheet, table);
     let mut at = text::start(&mut line, b"foreign");

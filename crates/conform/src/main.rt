@@ -3,6 +3,7 @@ ghost use Prim.Native.Nat.{_≤_};
 ghost use lib.ListN.{length};
 ghost use Rattle.conform.specs.Steps.{Within};
 
+mod acceptance_case;
 mod cases;
 mod compile_case;
 mod milliseconds_case;
@@ -57,18 +58,48 @@ fn answer(buf: &mut [u8; 65536], sheet: &mut [u32], table: &mut [u32], from: Lef
             let read = cases::check(buf, input, sheet);
             next(read.input, read.words, lent, length)
         }
-        2 => next(
-            cases::sheet_run(buf, input, &sheet[..words]),
-            words,
-            lent,
-            length,
-        ),
         3 => {
             let built = compile_case::compile(buf, input, &sheet[..words], table);
             next(built.input, words, built.lent, built.length)
         }
+        _ => answer_sheet(
+            buf,
+            &sheet[..words],
+            table,
+            kind,
+            Left {
+                input,
+                words,
+                lent,
+                length,
+            },
+        ),
+    }
+}
+
+// A case that leaves the current sheet as it is: a run of it, its masks, the current table checked against it.
+fn answer_sheet(
+    buf: &mut [u8; 65536],
+    sheet: &[u32],
+    table: &mut [u32],
+    kind: u32,
+    from: Left,
+) -> Step
+    requires { ⌜ (from .lent ≤ length (now table)) × (from .length ≤ from .lent) ⌝ }
+    ensures { λ r. ⌜ Within r (from .words) (length (now (table .entry))) ⌝ }
+{
+    let words = from.words;
+    let lent = from.lent;
+    let length = from.length;
+    let input = from.input;
+    match kind {
+        2 => next(cases::sheet_run(buf, input, sheet), words, lent, length),
         13 => {
-            within_case::masks(&sheet[..words]);
+            within_case::masks(sheet);
+            next(input, words, lent, length)
+        }
+        14 => {
+            acceptance_case::accept_table(sheet, &table[..length]);
             next(input, words, lent, length)
         }
         _ => answer_table(

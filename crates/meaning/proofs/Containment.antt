@@ -13,7 +13,6 @@ use Rattle.sets.proofs.Tests.{of-true, and-l, and-r, and-i, or-e, or-l, or-r}
 use Rattle.meaning.specs.Sheet.{nOf, tOf, kind, parent, isChild, source, target, containsIn, contains, strictlyContains, meetingFrom, meetingOf, meeting}
 use Rattle.meaning.specs.Check.{endOk}
 use Rattle.meaning.specs.Hierarchy.{childIn, childHolding}
-use Rattle.meaning.specs.Reaction.{conflict}
 use Rattle.meaning.proofs.ListLaws.{Holds, allOf-e}
 use Rattle.meaning.proofs.SheetLaws.{Rooted, parent-le, parent-n, parent-le-of-suc, Sound, tree}
 

@@ -8,6 +8,7 @@ ghost use lib.ListN.{length};
 ghost use Rattle.meaning.specs.Lists.{overwritten};
 ghost use Rattle.meaning.specs.Check.{sheetRefusal};
 ghost use Rattle.meaning.specs.Table.{tableOk};
+ghost use Rattle.meaning.specs.Acceptance.{acceptRefusal};
 ghost use Rattle.meaning.specs.Milliseconds.{milliseconds};
 ghost use Rattle.native.specs.Calls.{compileCall, withinCall, sheetCall, tableCall};
 use meaning::refusal::number;
@@ -55,6 +56,14 @@ pub extern "C" fn modechart_check_table(table: &[u32]) -> u32
         return 0;
     }
     15
+}
+
+// A table from elsewhere against its sheet; nothing is lent.
+#[no_mangle]
+pub extern "C" fn modechart_accept(sheet: &[u32], table: &[u32]) -> u32
+    ensures { λ r. ⌜ r ≡ acceptRefusal (now (sheet .entry)) (now (table .entry)) ⌝ }
+{
+    number(acceptance::accept(sheet, table))
 }
 
 // Words put at the front of lent ones; those after them stay.

@@ -1,7 +1,8 @@
-// timing [SECONDS] [large | sizes]: compile, table run, sheet run, what a call works out before its first tick, masks and milliseconds, ours beside the hand-optimised Rust version, in turns
+// timing [SECONDS] [large | sizes]: compile, the check of a table, table run, sheet run, what a call works out before its first tick, masks and milliseconds, ours beside the hand-optimised Rust version, in turns
 // on the same sheets, inputs and buffers (warm, not cleared). Every word of table, work list and output is compared first. With
 // BEFORE_DIR set at build, our operations as they were at an earlier commit are timed in the same turns; with MODEL_DIR, the
 // sheet run of the unproved model of patterns/code.
+mod acceptance;
 #[cfg(before)]
 mod before;
 mod calls;
@@ -50,6 +51,7 @@ struct Chart {
     name: String,
     sheet: Vec<u32>,
     table: Vec<u32>,
+    cells: f64,
     inputs: Vec<u32>,
 }
 
@@ -136,7 +138,19 @@ fn compiled(name: String, sheet: Vec<u32>, budget: f64) -> Chart {
     print_row(&name, "compile, M cells/s", &versions, cells, &t);
     let mut r = Rng::new(9);
     let inputs = (0..1 << 18).map(|_| r.below(1 << sheet[1])).collect();
-    Chart { name, table: lent.swap_remove(0).0, sheet, inputs }
+    Chart { name, table: lent.swap_remove(0).0, cells, sheet, inputs }
+}
+
+// The same with no table word lent, so that the walk ends in 10 and no table is written.
+fn time_walks(c: &Chart, budget: f64) {
+    let versions = compiles();
+    let mut works: Vec<_> = versions.iter().map(|_| vec![0u32; 4095]).collect();
+    let mut turns: Vec<_> = versions.iter().zip(&mut works)
+        .map(|(v, work)| || { black_box((v.call)(black_box(&c.sheet), &mut [], work)); }).collect();
+    let t = by_turns(budget, &mut turns.iter_mut().map(|f| f as &mut dyn FnMut()).collect::<Vec<_>>());
+    drop(turns);
+    assert!(works.iter().all(|w| *w == works[0]));
+    print_row(&c.name, "walk alone, M cells/s", &versions, c.cells, &t);
 }
 
 // The best time of each version of a run, by turns.
@@ -182,12 +196,15 @@ fn main() {
     let what = std::env::args().nth(2).unwrap_or_default();
     if what == "sizes" {
         for (name, sheet) in charts::sizes() {
-            compiled(name, sheet, budget);
+            let c = compiled(name, sheet, budget);
+            time_walks(&c, budget);
+            acceptance::time_acceptance(&c, budget);
         }
         return;
     }
     for (name, sheet) in charts::charts(what == "large") {
         let c = compiled(name.to_string(), sheet, budget);
+        acceptance::time_acceptance(&c, budget);
         time_table_runs(&c, budget);
         time_sheet_runs(&c, budget);
         within::time_masks(&c.name, &c.sheet, budget);
