@@ -4,3 +4,4 @@ pub mod NextDueLaws
 pub mod BlockTimerLaws
 pub mod AlikeLaws
 pub mod TimerWordLaws
+pub mod WordRowLaws

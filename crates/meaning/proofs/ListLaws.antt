@@ -7,8 +7,8 @@ use Prim.Native.Nat.{ℕ, zero, suc, _+_, _*_, _≤_, _<_}
 use native.Mathlib.Nat.{le-refl, le-trans, le-of-eq, not-suc-le-zero, le-of-suc-le-suc, eq-or-lt-of-le, add-zero, zero-add, mul-zero, mul-suc}
 use native.Mathlib.Omega.{arith}
 use lib.Dec.{T, eqb, eqb→eq, eqb-refl, ltb, lt→ltb}
-use lib.ListN.{length, getD, length-append}
-use lib.Seq.{ext-getD}
+use lib.ListN.{length, getD, length-append, take, drop}
+use lib.Seq.{ext-getD, take-at, drop-at}
 use Rattle.sets.proofs.Tests.{and-l, and-r, and-i, or-e, or-l, or-r, below-or-not}
 use Rattle.meaning.specs.Lists.{rowFrom, isIn, allOf, firstOf}
 
@@ -120,6 +120,12 @@ rowFrom-append {A} f i (suc m) n =
     let e : suc m + n ≡ suc (m + n) = omega arith in
     let k : suc i + m ≡ i + suc m = omega arith in
     rw (e, ← k) (ap (λ (r : List A). f i ∷ r) (rowFrom-append f (suc i) m n))
+
+-- a part of a row is a row
+pub row-part : {A : Type 0} (f : ℕ → A) (m n r : ℕ) → take n (drop m (rowFrom 0 (m + (n + r)) f)) ≡ rowFrom m n f
+row-part f m n r =
+    rw (rowFrom-append f 0 m (n + r), zero-add m, drop-at (rowFrom 0 m f) (rowFrom m (n + r) f) m (rowFrom-length f 0 m), rowFrom-append f m n r)
+    (take-at (rowFrom m n f) (rowFrom (m + n) r f) n (rowFrom-length f m n))
 
 pub rowFrom-shift : {A : Type 0} (f : ℕ → A) (c i m : ℕ) → rowFrom (c + i) m f ≡ rowFrom i m (λ j. f (c + j))
 unfolding rowFrom

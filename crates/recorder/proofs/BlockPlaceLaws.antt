@@ -8,16 +8,12 @@ use lib.Arith.{digits-lt}
 use lib.Dec.{T}
 use lib.ListN.{length}
 use lib.Pow.{shl-exact, pow-mono}
-use Rattle.meaning.specs.Table.{wordIn, bIn, offsetIn, timersIn, tableOk}
+use Rattle.meaning.specs.Table.{bIn, offsetIn, tableOk}
 use Rattle.table.proofs.LayoutFacts.{shape-of, length-is, block-inside}
 
 -- a block's mask and timers lie within the table
 pub header-inside : (w : List ℕ) → T (tableOk w) → (b : ℕ) → b < bIn w → offsetIn w b + 3 ≤ length w
 header-inside w h b l = omega (arith, length-is w (shape-of w h) b l, block-inside w (shape-of w h) b l)
-
-pub timers-are : (w : List ℕ) (b : ℕ) {at : ℕ} → at ≡ offsetIn w b → wordIn w (at + 2) * 2 ^ 32 + wordIn w (at + 1) ≡ timersIn w b
-unfolding timersIn
-timers-are w b e = rw e
 
 -- `due << k`, and the cell's number is small
 pub due-shl : {due : ℕ} (k : ℕ) → due < 64 → k ≤ 6 → due * 2 ^ k % 2 ^ 64 ≡ due * 2 ^ k

@@ -12,9 +12,10 @@ use lib.Dec.{T, eqb→eq, eqb-refl}
 use lib.Bits.{or-disjoint}
 use lib.Pow.{pow-pos}
 use lib.ListN.{length}
-use Rattle.sets.specs.Sets.{has, union, meet, minus, single, setOf, those, membersFrom, members, prepend, size, some, every, someIn, everyIn}
-use Rattle.sets.proofs.Tests.{is-true, is-false, of-false, and-l, and-r, and-i, or-e, or-l, or-r, implied, implies}
-use Rattle.sets.proofs.Membership.{has-none, has-above, same-members, has-union, has-meet, has-minus, meet-le, has-join-low, has-join-high, has-low, has-single, has-setOf, setOf-lt, has-those, those-lt}
+use borrow.Author.Tests.{lt-ltb}
+use Rattle.sets.specs.Sets.{has, union, meet, minus, single, setOf, those, membersFrom, members, prepend, size, some, every, someIn, everyIn, below}
+use Rattle.sets.proofs.Tests.{is-true, is-false, of-false, and-l, and-r, and-i, or-e, or-l, or-r, implied, implies, of-true}
+use Rattle.sets.proofs.Membership.{has-none, has-above, same-members, has-union, has-meet, has-minus, meet-le, has-join-low, has-join-high, has-low, has-single, has-setOf, setOf-lt, has-those, those-lt, has-below}
 
 -- a member of a set of w bits is below w
 pub has-lt : (w s i : ℕ) → s < 2 ^ w → T (has s i) → i < w
@@ -109,6 +110,10 @@ those-e w s p i h =
 
 pub those-i : (w s : ℕ) (p : ℕ → Bool) (i : ℕ) → i < w → T (has s i) → T (p i) → T (has (those w s p) i)
 those-i w s p i l h k = subst T (sym (has-those w s p i l)) (and-i (has s i) (p i) h k)
+
+-- the set of all numbers below n has each of them
+pub below-i : (n i : ℕ) → i < n → T (has (below n) i)
+below-i n i l = of-true (has-below n i ∙ lt-ltb i n l)
 
 -- ---- bounded tests
 

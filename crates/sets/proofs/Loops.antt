@@ -35,10 +35,13 @@ module _ (p : ℕ → Bool) where
   pub every-done : (n m : ℕ) → m ≤ n → n ≤ m → every m p ≡ true → every n p ≡ true
   every-done n m h k e = ap (λ (i : ℕ). every i p) (le-antisymm k h) ∙ e
 
-  -- without leaving: the flag so far, with the two tests of the next number
-  pub every-and : (m : ℕ) (ok a b : Bool) → ok ≡ every m p → p m ≡ (a && b) → (ok && a && b) ≡ every (m + 1) p
+  -- without leaving: the flag so far, with the test of the next number, or with its two tests
+  pub every-test : (m : ℕ) {ok a : Bool} → ok ≡ every m p → a ≡ p m → (ok && a) ≡ every (m + 1) p
   unfolding every
-  every-and m ok a b h e = rw (add-one, h, e) (and-assoc (every m p) a b ∙ and-comm (every m p) (a && b))
+  every-test m h e = rw add-one (ap₂ _&&_ h e ∙ and-comm (every m p) (p m))
+
+  pub every-and : (m : ℕ) (ok a b : Bool) → ok ≡ every m p → p m ≡ (a && b) → (ok && a && b) ≡ every (m + 1) p
+  every-and m ok a b h e = and-assoc ok a b ∙ every-test m h (sym e)
 
   -- some number below n has p: so far, none below m
   pub some-start : some 0 p ≡ false

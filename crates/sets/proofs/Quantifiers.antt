@@ -1,19 +1,20 @@
 -- Tests on the numbers below n and on the members of a set as equations, and the union of sets over the members of a set. Assumes nothing.
 use mathlib.Core.Path.{_≡_, refl, sym, ap, ap₂, _∙_, subst}
 use mathlib.Core.Bool.{Bool, true, false, not, _&&_, _||_, or-assoc, or-false, or-true, and-false}
-use mathlib.Core.Logic.{⊎-elim}
+use mathlib.Core.Logic.{_⊎_, inl, inr, ⊎-elim}
 use mathlib.Core.List.{List}
-use Prim.Native.Nat.{ℕ, zero, suc, _+_, _^_, _<_}
-use native.Mathlib.Nat.{pos-of-ne-zero, eq-zero-or-pos, le-refl, le-step, lt-of-le-of-lt, add-zero, add-suc, suc-add, zero-add}
+use Prim.Native.Nat.{ℕ, zero, suc, _+_, _*_, _/_, _%_, _^_, _<_}
+use native.Mathlib.Nat.{pos-of-ne-zero, eq-zero-or-pos, le-refl, le-step, lt-of-le-of-lt, add-zero, add-suc, suc-add, zero-add, not-suc-le-zero, mul-zero, mod-lt, div-add-mod', div-lt-iff-lt-mul}
 use native.Mathlib.Decide.{ℕ-discrete}
 use native.Mathlib.Omega.{arith}
+use lib.Arith.{digits-lt}
 use lib.Dec.{T, T-not, not-T, eqb, eqb→eq, eqb-refl}
 use lib.ListN.{length}
 use borrow.Author.Tests.{eq-eqb, ne-eqb}
-use Rattle.sets.specs.Sets.{has, union, meet, minus, single, meets, setOf, some, every, someIn, everyIn, members, membersFrom, prepend, size, lowest}
+use Rattle.sets.specs.Sets.{has, union, meet, minus, single, meets, setOf, some, every, someIn, everyIn, members, membersFrom, prepend, size, lowest, below}
 use Rattle.sets.proofs.Tests.{is-true, is-false, of-true, of-false, and-l, and-r, and-i, bool-ext}
 use Rattle.sets.proofs.Membership.{ext, lt-two-pow, has-none, has-meet, has-union, has-single, has-minus, has-setOf, setOf-lt, single-lt, meet-le, minus-le}
-use Rattle.sets.proofs.Facts.{union-e, union-l, setOf-i, some-e, some-i, someIn-e, someIn-i, every-e, every-i, everyIn-e, everyIn-i}
+use Rattle.sets.proofs.Facts.{union-e, union-l, setOf-i, some-e, some-i, someIn-e, someIn-i, every-e, every-i, everyIn-e, everyIn-i, below-i}
 use Rattle.sets.proofs.Members.{Turn, Lowest, fold, lowest-member, empty, without-other, members-lowest, members-none, minus-member}
 
 -- ---- some number below n has p
@@ -53,8 +54,6 @@ pub someIn-same : (w a : ℕ) (p q : ℕ → Bool) → ((i : ℕ) → i < w → 
 unfolding someIn
 someIn-same w a p q e = some-same w (λ i. has a i && p i) (λ i. has a i && q i) (λ i l. ap (λ (b : Bool). has a i && b) (e i l))
 
--- ---- every number below n has p
-
 -- two members, one of each set, in either order
 pub someIn-swap : (v w a b : ℕ) (r : ℕ → ℕ → Bool) → someIn v a (λ t. someIn w b (r t)) ≡ someIn w b (λ u. someIn v a (λ t. r t u))
 someIn-swap v w a b r = bool-ext (someIn v a (λ t. someIn w b (r t))) (someIn w b (λ u. someIn v a (λ t. r t u))) (go v w a b r) (go w v b a (λ u t. r t u))
@@ -64,6 +63,8 @@ someIn-swap v w a b r = bool-ext (someIn v a (λ t. someIn w b (r t))) (someIn w
         let f = someIn-e v a (λ t. someIn w b (r t)) h in
         let g = someIn-e w b (r (f .0)) (f .3) in
         someIn-i w b (λ u. someIn v a (λ t. r t u)) (g .0) (g .1) (g .2) (someIn-i v a (λ t. r t (g .0)) (f .0) (f .1) (f .2) (g .3))
+
+-- ---- every number below n has p
 
 pub every-same : (n : ℕ) (p q : ℕ → Bool) → ((i : ℕ) → i < n → p i ≡ q i) → every n p ≡ every n q
 every-same n p q e =
@@ -79,6 +80,54 @@ every-both n p q =
     and-i (every n p) (every n q) (every-i n p (λ i l. and-l (p i) (q i) (k i l))) (every-i n q (λ i l. and-r (p i) (q i) (k i l))))
     (λ h. every-i n (λ i. p i && q i) (λ i l.
     and-i (p i) (q i) (every-e n p (and-l (every n p) (every n q) h) i l) (every-e n q (and-r (every n p) (every n q) h) i l)))
+
+-- one of them has not
+pub every-false : (w : ℕ) (p : ℕ → Bool) → every w p ≡ false → (i : ℕ) × (i < w) × (p i ≡ false)
+unfolding every
+every-false zero p e = absurd (of-false e tt)
+every-false (suc w) p e = go (p w) refl e (every-false w p)
+  where
+    go : (b : Bool) → p w ≡ b → (b && every w p) ≡ false → (every w p ≡ false → (i : ℕ) × (i < w) × (p i ≡ false))
+        → (i : ℕ) × (i < suc w) × (p i ≡ false)
+    go true q e on = let (i, l, f) = on e in (i, omega arith, f)
+    go false q e on = (w, omega arith, q)
+
+pub everyIn-false : (w s : ℕ) (p : ℕ → Bool) → everyIn w s p ≡ false → (i : ℕ) × (i < w) × T (has s i) × (p i ≡ false)
+unfolding everyIn
+everyIn-false w s p e =
+    let (i, l, f) = every-false w (λ i. not (has s i) || p i) e in
+    let (m, g) = go (has s i) (p i) f in (i, l, m, g)
+  where
+    go : (a b : Bool) → (not a || b) ≡ false → T a × (b ≡ false)
+    go true b f = (tt, f)
+    go false b f = absurd (of-false f tt)
+
+-- the members of the set of all numbers below n
+pub everyIn-all : (n : ℕ) (p : ℕ → Bool) → everyIn n (below n) p ≡ every n p
+everyIn-all n p =
+    bool-ext (everyIn n (below n) p) (every n p)
+    (λ h. every-i n p (λ i l. everyIn-e n (below n) p h i l (below-i n i l)))
+    (λ h. everyIn-i n (below n) p (λ i l m. every-e n p h i l))
+
+-- m rows of n numbers
+pub every-rows : (m n : ℕ) (p : ℕ → Bool) → every m (λ d. every n (λ i. p (d * n + i))) ≡ every (m * n) p
+every-rows m n p = bool-ext (every m (λ d. every n (λ i. p (d * n + i)))) (every (m * n) p) forth back
+  where
+    filled : (c : ℕ) → c < m * n → (n ≡ 0) ⊎ (0 < n) → 0 < n
+    filled c l (inl e) = absurd (not-suc-le-zero (rw (e, mul-zero m) at l))
+    filled c l (inr h) = h
+
+    forth : T (every m (λ d. every n (λ i. p (d * n + i)))) → T (every (m * n) p)
+    forth h =
+        every-i (m * n) p (λ c l.
+        let some = filled c l (eq-zero-or-pos n) in
+        let row = every-e m (λ d. every n (λ i. p (d * n + i))) h (c / n) (div-lt-iff-lt-mul some .1 l) in
+        subst (λ (x : ℕ). T (p x)) (div-add-mod' c n) (every-e n (λ i. p (c / n * n + i)) row (c % n) (mod-lt c some)))
+
+    back : T (every (m * n) p) → T (every m (λ d. every n (λ i. p (d * n + i))))
+    back h =
+        every-i m (λ d. every n (λ i. p (d * n + i))) (λ d l.
+        every-i n (λ i. p (d * n + i)) (λ i k. every-e (m * n) p h (d * n + i) (digits-lt l k)))
 
 -- ---- two sets meet where some number is in both
 

@@ -1,6 +1,6 @@
 -- A set seen at two widths, the union of sets over its members at both, and a loop that tests every member of a set. Assumes nothing.
 use mathlib.Core.Path.{_≡_, sym, ap, _∙_, subst}
-use mathlib.Core.Bool.{Bool, true, false, _&&_, _||_}
+use mathlib.Core.Bool.{Bool, true, false, _&&_, _||_, and-true, and-assoc}
 use Prim.Native.Nat.{ℕ, _^_, _≤_, _<_}
 use native.Mathlib.Decide.{ℕ-discrete}
 use native.Mathlib.Nat.{lt-of-le-of-lt}
@@ -85,3 +85,14 @@ everyIn-fails {w} {s} {t} p u e =
 pub everyIn-none : (w s : ℕ) (p : ℕ → Bool) → s ≡ 0 → everyIn w s p ≡ true
 everyIn-none w s p e =
     is-true (everyIn w s p) (everyIn-i w s p (λ i l m. absurd (subst T (ap (λ (x : ℕ). has x i) e ∙ has-none i) m)))
+
+-- without leaving: the flag so far with what is left to test, after one turn and at the end
+pub everyIn-and : {w s t r : ℕ} (p : ℕ → Bool) (ok : Bool) {a : Bool} → Turn w s t r → a ≡ p t → ((ok && a) && everyIn w r p) ≡ (ok && everyIn w s p)
+everyIn-and {w} {s} {t} {r} p ok {a} u e = and-assoc ok a (everyIn w r p) ∙ ap (λ (b : Bool). ok && b) (go a (sym e))
+  where
+    go : (b : Bool) → p t ≡ b → (b && everyIn w r p) ≡ everyIn w s p
+    go true q = everyIn-turn p u q
+    go false q = sym (everyIn-fails p u q)
+
+pub everyIn-done : (w s : ℕ) (p : ℕ → Bool) (ok : Bool) → s ≡ 0 → (ok && everyIn w s p) ≡ ok
+everyIn-done w s p ok e = ap (λ (b : Bool). ok && b) (everyIn-none w s p e) ∙ and-true ok

@@ -1,8 +1,9 @@
--- What the head and the pairs say once they have passed: every word that the code looks at is there. Assumes nothing.
+-- What the head and the pairs say once they have passed: every word that the code looks at is there. And a block's timers, as they are read.
+-- Assumes nothing.
 use mathlib.Core.Path.{_≡_, refl}
 use mathlib.Core.Bool.{and-true}
 use mathlib.Core.List.{List}
-use Prim.Native.Nat.{ℕ, suc, _+_, _*_, _≤_, _<_}
+use Prim.Native.Nat.{ℕ, suc, _+_, _*_, _^_, _≤_, _<_}
 use native.Mathlib.Nat.{le-refl, le-trans, le-of-eq}
 use native.Mathlib.Numerals.{add-one}
 use native.Mathlib.Omega.{arith}
@@ -13,7 +14,7 @@ use Rattle.sets.specs.Sets.{every}
 use Rattle.sets.proofs.Tests.{and-l, and-r}
 use Rattle.sets.proofs.Facts.{every-e}
 use Rattle.meaning.specs.Lists.{allOf}
-use Rattle.meaning.specs.Table.{wordIn, kIn, tIn, bIn, offsetIn, lengthIn, endBeforeIn}
+use Rattle.meaning.specs.Table.{wordIn, kIn, tIn, bIn, offsetIn, lengthIn, endBeforeIn, timersIn}
 use Rattle.meaning.proofs.ListLaws.{allOf-e, steps-le}
 use Rattle.table.specs.Parts.{tableHeadOk, tablePairsOk}
 
@@ -59,6 +60,12 @@ end-first w = refl
 pub end-after : (w : List ℕ) (b : ℕ) → endBeforeIn w (b + 1) ≡ offsetIn w b + lengthIn w b
 unfolding endBeforeIn
 end-after w b = rw add-one
+
+-- ---- a block's timers, read as two words after its offset
+
+pub timers-read : (w : List ℕ) (b : ℕ) {at r : ℕ} → at ≡ offsetIn w b → r ≡ wordIn w (at + 2) * 2 ^ 32 + wordIn w (at + 1) → r ≡ timersIn w b
+unfolding timersIn
+timers-read w b e h = rw e at h
 
 -- ---- the pairs: the blocks follow one another, so that each lies within the table
 

@@ -11,6 +11,7 @@ use lib.ListN.{length}
 use Rattle.sets.proofs.Tests.{of-false}
 use Rattle.sets.proofs.Loops.{passed, failed}
 use Rattle.meaning.specs.Table.{timersIn}
+use Rattle.table.proofs.Places.{timers-read}
 use Rattle.table.proofs.LayoutFacts.{head-sound, b-le}
 use Rattle.acceptance.specs.Heads.{headTrue}
 use Rattle.acceptance.proofs.MaskLaws.{masks-length, part-distinct, timers-inside, head-fails, head-i, noted-next}
@@ -35,8 +36,7 @@ inside : (c : tie.Start) → c .args .b < length (c .args .masks .now)
 inside c = omega (arith, c .pre .1, masks-length (c .pre .0))
 
 timers-are : (c : tie.After-running) → let a = entry (judged (placed c)) .args in c .before .timers-at .result ≡ timersIn (a .table .now) (a .b)
-unfolding timersIn
-timers-are c = rw (c .before .before .offset .ensures) at (c .before .timers-at .ensures)
+timers-are c = timers-read _ _ (c .before .before .offset .ensures) (c .before .timers-at .ensures)
 
 mul-mask : tie.Need-mul-mask
 mul-mask c = let q = few (c .before .before .before .before) in search needs

@@ -1,6 +1,7 @@
--- `acceptance::masks::put_masks` meets its contract: the masks of the blocks below b stand at the front. Assumes nothing.
-use mathlib.Core.Path.{_≡_, refl, ap, _∙_}
-use Prim.Native.Nat.{ℕ, _-_, _≤_, _<_}
+-- `acceptance::masks::put_masks` meets its contract: the masks of the blocks below b stand at the front, the rest is to follow. Assumes nothing.
+use mathlib.Core.Path.{_≡_, refl, sym, _∙_}
+use Prim.Native.Nat.{ℕ, _+_, _-_, _≤_, _<_}
+use native.Mathlib.Nat.{sub-zero}
 use native.Mathlib.Omega.{arith}
 use borrow.Author.Needs.{needs}
 use lib.ListN.{length, length-set}
@@ -8,13 +9,15 @@ use Rattle.meaning.specs.Lists.{rowFrom}
 use Rattle.meaning.specs.Table.{bIn, maskIn}
 use Rattle.table.proofs.LayoutFacts.{head-sound, length-is, block-inside}
 use Rattle.rows.specs.Over.{over}
-use Rattle.acceptance.proofs.MaskLaws.{front-none, front-next, mask-read}
+use Rattle.cells.proofs.WordRowLaws.{words-turn, words-end}
+use Rattle.acceptance.proofs.MaskLaws.{mask-read}
 use Rattle.acceptance.proofs.masks.put_masks.Statement.{statement}
 use Rattle.acceptance.proofs.masks.put_masks.Tie as tie
 
 abbrev Inv-loop : tie.InvT-loop
 Inv-loop table masks₀ count b₀ masks b =
-    (b ≤ bIn table) × (count ≡ bIn table) × (length masks ≡ length masks₀) × (masks ≡ over masks₀ 0 (rowFrom 0 b (maskIn table)))
+    (b ≤ bIn table) × (count ≡ bIn table) × (length masks ≡ length masks₀)
+    × (over masks b (rowFrom b (bIn table - b) (maskIn table)) ≡ over masks₀ 0 (rowFrom 0 (bIn table) (maskIn table)))
 
 abbrev μ-loop : tie.MeasureT-loop
 μ-loop table masks₀ count b₀ masks b = bIn table - b
@@ -26,7 +29,7 @@ block-count-requires : tie.Need-block-count-requires Inv-loop μ-loop
 block-count-requires c κs = head-sound _ (c .before .before .pre .0)
 
 loop-holds : tie.Need-loop-holds Inv-loop μ-loop
-loop-holds c = (omega arith, c .block-count .ensures, refl, front-none _ _)
+loop-holds c = (omega arith, c .block-count .ensures, refl, simp sub-zero)
 
 offset-requires : tie.Need-offset-requires Inv-loop μ-loop
 offset-requires c κs = (head-sound _ (entry (c .before) .pre .0), omega arith)
@@ -60,12 +63,13 @@ loop-less c = search needs
 loop-again : tie.Need-loop-again Inv-loop μ-loop
 loop-again c =
     let l = c .before .before .before .loop in
-    let a = entry (c .before .before .before) .args in
+    let w = entry (c .before .before .before) .args .table .now in
     let o = c .before .offset in (
       omega arith,
       l .inv .1,
       length-set {A = ℕ} (l .masks) (l .b) _ ∙ l .inv .2,
-      front-next (maskIn (a .table .now)) (a .masks .now) (l .b) (omega arith) (l .inv .3) (mask-read (a .table .now) (l .b) (o .ensures)),
+      words-turn (maskIn w) (bIn w) (l .b) (l .masks) (l .b) (l .b + 1) _ (omega arith) (omega arith) refl (mask-read w (l .b) (o .ensures))
+          ∙ l .inv .3,
     )
 
 same-length : tie.Need-same-length Inv-loop μ-loop
@@ -74,9 +78,8 @@ same-length c = search needs
 returns : tie.Need-returns Inv-loop μ-loop
 returns c =
     let l = c .before .loop in
-    let a = entry (c .before) .args in
-    let e : l .b ≡ bIn (a .table .now) = omega arith in
-    l .inv .3 ∙ ap (λ (n : ℕ). over (a .masks .now) 0 (rowFrom 0 n (maskIn (a .table .now)))) e
+    let w = entry (c .before) .args .table .now in
+    sym (words-end (maskIn w) (bIn w) (l .b) (l .masks) (l .b) (omega arith)) ∙ l .inv .3
 
 pub put-masks-spec : {M : Type 1} → statement M
 put-masks-spec =

@@ -11,7 +11,8 @@ use Rattle.meaning.specs.Run.{State, readingsOk}
 use Rattle.meaning.specs.Table.{bIn, tableOk}
 use Rattle.run.specs.States.{stateOf}
 use Rattle.table.proofs.LayoutFacts.{shape-of, head-sound}
-use Rattle.recorder.proofs.BlockPlaceLaws.{header-inside, timers-are}
+use Rattle.table.proofs.Places.{timers-read}
+use Rattle.recorder.proofs.BlockPlaceLaws.{header-inside}
 use Rattle.recorder.proofs.TableStateLaws.{state-outside, state-inside}
 use Rattle.recorder.proofs.state.state_ok.Statement.{statement}
 use Rattle.recorder.proofs.state.state_ok.Tie as tie
@@ -64,7 +65,7 @@ returns-2 c =
     let q = state s in
     c .readings-ok .ensures
     ∙ ap₂ (λ (y : ℕ) (d : List ℕ). readingsOk y (λ t. getD d t 0) (q .readings))
-    (c .before .before .before .timers-at .ensures ∙ timers-are w (q .at) (at .offset .ensures)) (s .pre .1)
+    (timers-read w (q .at) (at .offset .ensures) (c .before .before .before .timers-at .ensures)) (s .pre .1)
     ∙ state-inside w (sound s) q (inside (at .before))
 
 pub state-ok-spec : {M : Type 1} → statement M

@@ -1,10 +1,11 @@
 -- `recorder::table_run::block_at` meets its contract. Assumes nothing.
-use mathlib.Core.Path.{refl, ap, _∙_}
+use mathlib.Core.Path.{refl, ap}
 use Prim.Native.Nat.{ℕ, _+_}
 use native.Mathlib.Omega.{arith}
 use Rattle.sets.proofs.Tests.{of-true}
 use Rattle.table.proofs.LayoutFacts.{shape-of, head-sound}
-use Rattle.recorder.proofs.BlockPlaceLaws.{header-inside, timers-are}
+use Rattle.table.proofs.Places.{timers-read}
+use Rattle.recorder.proofs.BlockPlaceLaws.{header-inside}
 use Rattle.recorder.proofs.table_run.block_at.Statement.{statement}
 use Rattle.recorder.proofs.table_run.block_at.Tie as tie
 
@@ -25,7 +26,7 @@ returns : tie.Need-returns
 returns c =
     let a = c .before .before .before .args in
     let e = c .before .offset .ensures in
-    (refl, (ap (λ (x : ℕ). x + 3) e, c .timers-at .ensures ∙ timers-are (a .table .now) (a .number) e))
+    (refl, (ap (λ (x : ℕ). x + 3) e, timers-read (a .table .now) (a .number) e (c .timers-at .ensures)))
 
 pub block-at-spec : {M : Type 1} → statement M
 block-at-spec = tie.close (tie.spec offset-requires add-t4 timers-at-requires returns)

@@ -12,7 +12,7 @@ use Rattle.sets.specs.Sets.{minus, size}
 use Rattle.sets.proofs.Tests.{is-false, of-false}
 use Rattle.meaning.specs.Table.{maskIn, timersIn, cellsIn}
 use Rattle.meaning.proofs.Bounds.{cells-le}
-use Rattle.table.proofs.Places.{head-of, block-room}
+use Rattle.table.proofs.Places.{head-of, block-room, timers-read}
 use Rattle.table.proofs.BlockTests.{maskTest, timersTest, block-head-of, block-head-is, timers-test}
 use Rattle.table.proofs.blocks.block_head_ok.Statement.{statement}
 use Rattle.table.proofs.blocks.block_head_ok.Tie as tie
@@ -31,8 +31,7 @@ room : (c : tie.After-block-length) → c .before .offset .result + c .block-len
 room c = omega (arith, block-room (table c) (entry c .pre .1) (block c) (entry c .pre .3))
 
 timers-are : (c : tie.After-timers-at) → c .timers-at .result ≡ timersIn (table (c .before .before)) (block (c .before .before))
-unfolding timersIn
-timers-are c = rw (c .before .before .before .offset .ensures) at (c .timers-at .ensures)
+timers-are c = timers-read _ _ (c .before .before .before .offset .ensures) (c .timers-at .ensures)
 
 size-is : (c : tie.After-size) → c .size .result ≡ size 64 (timersIn (table (c .before .before .before)) (block (c .before .before .before)))
 size-is c = c .size .ensures ∙ ap (size 64) (timers-are (c .before))
