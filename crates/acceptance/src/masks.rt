@@ -9,7 +9,8 @@ ghost use Rattle.cells.specs.Index.{PowerOfTwo};
 ghost use Rattle.reaction.specs.Plan.{Planned};
 ghost use Rattle.rows.specs.Over.{over};
 ghost use Rattle.table.specs.Parts.{shapeOk};
-ghost use Rattle.acceptance.specs.Heads.{masksIn, headTrue, Noted};
+ghost use Rattle.meaning.specs.Faithful.{headFaithful};
+ghost use Rattle.acceptance.specs.Heads.{masksIn, Noted};
 use cells::listed::note;
 use cells::listed::place;
 use hierarchy::consistent::is_consistent;
@@ -42,7 +43,7 @@ fn head_true(
     b: usize,
 ) -> bool
     requires { ⌜ Noted (now sheet) (now table) (now plan) (now masks) (now hints) b × (b < bIn (now table)) ⌝ }
-    ensures { λ r. ⌜ (r ≡ headTrue (now (sheet .entry)) (now (table .entry)) b)
+    ensures { λ r. ⌜ (r ≡ headFaithful (now (sheet .entry)) (now (table .entry)) b)
         × (T r
         → Noted (now (sheet .entry)) (now (table .entry)) (now (plan .entry)) (now (masks .entry)) (now (hints .exit)) (b + 1)) ⌝ }
 {
@@ -69,7 +70,7 @@ pub fn heads_true(
         × T (shapeOk (now table))
         × (now masks ≡ masksIn (now table))
         × PowerOfTwo (length (now hints)) ⌝ }
-    ensures { λ r. ⌜ r ≡ every (bIn (now (table .entry))) (headTrue (now (sheet .entry)) (now (table .entry))) ⌝ }
+    ensures { λ r. ⌜ r ≡ every (bIn (now (table .entry))) (headFaithful (now (sheet .entry)) (now (table .entry))) ⌝ }
 {
     let mut b = 1;
     while b < masks.len() {

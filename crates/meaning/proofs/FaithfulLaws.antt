@@ -11,8 +11,8 @@ use lib.Arith.{digits-div, digits-mod}
 use lib.ListN.{getD}
 use lib.Seq.{ext-getD}
 use borrow.Author.Tests.{eq-eqb}
-use Rattle.sets.specs.Sets.{some}
-use Rattle.sets.proofs.Tests.{is-true, of-true, below-or-not}
+use Rattle.sets.specs.Sets.{some, every}
+use Rattle.sets.proofs.Tests.{is-true, of-true, and-l, and-r, and-i, below-or-not}
 use Rattle.sets.proofs.Facts.{some-i, every-e, every-i}
 use Rattle.meaning.specs.Lists.{rowFrom}
 use Rattle.meaning.specs.Sheet.{kOf, tOf, source}
@@ -21,7 +21,7 @@ use Rattle.meaning.specs.Reaction.{TickSets, isTimer, delay, running}
 use Rattle.meaning.specs.Tick.{fiveWords}
 use Rattle.meaning.specs.Table.{wordIn, kIn, tIn, bIn, sourceIn, delayIn, maskIn, timersIn, cellsIn, cellWord}
 use Rattle.meaning.specs.Compile.{timerWord, cellTick}
-use Rattle.meaning.specs.Faithful.{cellFaithful, blockFaithful, faithful}
+use Rattle.meaning.specs.Faithful.{cellFaithful, headFaithful, blockFaithful, wordsFaithful, faithful}
 use Rattle.meaning.proofs.ListLaws.{allOf-e, allOf-i, _▹_, rowFrom-at, rowFrom-length}
 use Rattle.meaning.proofs.SheetLaws.{Sound}
 use Rattle.meaning.proofs.ReadingLaws.{delay-small}
@@ -72,34 +72,40 @@ module _ (s w : List ℕ) where
       ▹ tt)
 
   pub block-faithful : (b : ℕ) → BlockTrue s w b → T (blockFaithful s w b)
-  unfolding blockFaithful
+  unfolding blockFaithful headFaithful
   block-faithful b h =
-      allOf-i _
-      (h .mask ▹ h .once ▹ of-true (eq-eqb (timersIn w b) (running s (maskIn w b)) (h .timers))
-      ▹ every-i (cellsIn w b) (cellFaithful s w b) (λ c l. cell-faithful b c (h .cells c l)) ▹ tt)
+      and-i (headFaithful s w b) (every (cellsIn w b) (cellFaithful s w b))
+      (allOf-i _ (h .mask ▹ h .once ▹ of-true (eq-eqb (timersIn w b) (running s (maskIn w b)) (h .timers)) ▹ tt))
+      (every-i (cellsIn w b) (cellFaithful s w b) (λ c l. cell-faithful b c (h .cells c l)))
 
   module _ (h : T (faithful s w)) where
-    pub k-same : kIn w ≡ kOf s
+    words-same : T (wordsFaithful s w)
     unfolding faithful
-    k-same = eqb→eq (kIn w) (kOf s) (allOf-e _ h .0)
+    words-same = and-l (wordsFaithful s w) (every (bIn w) (blockFaithful s w)) h
+
+    pub k-same : kIn w ≡ kOf s
+    unfolding wordsFaithful
+    k-same = eqb→eq (kIn w) (kOf s) (allOf-e _ words-same .0)
 
     pub t-same : tIn w ≡ tOf s
-    unfolding faithful
-    t-same = eqb→eq (tIn w) (tOf s) (allOf-e _ h .1 .0)
+    unfolding wordsFaithful
+    t-same = eqb→eq (tIn w) (tOf s) (allOf-e _ words-same .1 .0)
 
     pub timer-same : (t : ℕ) → t < tOf s → wordIn w (4 + t) ≡ timerWord s t
-    unfolding faithful
-    timer-same t l = eqb→eq (wordIn w (4 + t)) (timerWord s t) (every-e (tOf s) (λ u. eqb (wordIn w (4 + u)) (timerWord s u)) (allOf-e _ h .1 .1 .0) t l)
+    unfolding wordsFaithful
+    timer-same t l = eqb→eq (wordIn w (4 + t)) (timerWord s t) (every-e (tOf s) (λ u. eqb (wordIn w (4 + u)) (timerWord s u)) (allOf-e _ words-same .1 .1 .0) t l)
 
     pub block-true : (b : ℕ) → b < bIn w → BlockTrue s w b
-    unfolding faithful blockFaithful
+    unfolding faithful blockFaithful headFaithful
     block-true b l =
-        let t = allOf-e _ (every-e (bIn w) (blockFaithful s w) (allOf-e _ h .1 .1 .1 .0) b l) in
+        let block = every-e (bIn w) (blockFaithful s w) (and-r (wordsFaithful s w) (every (bIn w) (blockFaithful s w)) h) b l in
+        let t = allOf-e _ (and-l (headFaithful s w b) (every (cellsIn w b) (cellFaithful s w b)) block) in
         record {
           mask = t .0;
           once = t .1 .0;
           timers = eqb→eq (timersIn w b) (running s (maskIn w b)) (t .1 .1 .0);
-          cells = λ c k. cell-true b c (every-e (cellsIn w b) (cellFaithful s w b) (t .1 .1 .1 .0) c k);
+          cells = λ c k.
+              cell-true b c (every-e (cellsIn w b) (cellFaithful s w b) (and-r (headFaithful s w b) (every (cellsIn w b) (cellFaithful s w b)) block) c k);
         }
 
     -- no mask stands twice: blocks of one mask are one block

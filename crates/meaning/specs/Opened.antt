@@ -16,7 +16,7 @@ use Rattle.meaning.specs.Table.{wordIn, kIn, tIn, bIn, sourceIn, delayIn
 use Rattle.meaning.specs.TableRun.{dueNumber, tableStateOk, cellOf, stateAfterCell, isStale, tableStep, tableRun}
 use Rattle.meaning.specs.Compile.{dueSet, pairsFrom, workListFull, timersMany, cellCount, cellTick, listing, cellsFrom, walkFrom, walk, timerWord, cellWords, blockWords, tableWords, compileRefusal, compile}
 use Rattle.meaning.specs.Milliseconds.{ticksAndRests, resultsShort, ticksOutOfRange, milliseconds}
-use Rattle.meaning.specs.Faithful.{cellFaithful, blockFaithful, faithful}
+use Rattle.meaning.specs.Faithful.{cellFaithful, headFaithful, blockFaithful, wordsFaithful, faithful}
 use Rattle.meaning.specs.Acceptance.{acceptRefusal}
 use Rattle.meaning.specs.NamedEvents.{names}
 
@@ -81,7 +81,7 @@ unfolding ticksAndRests resultsShort ticksOutOfRange milliseconds
 in-milliseconds = tt
 
 unfoldable in-faithful : Unit {0}
-unfolding cellFaithful blockFaithful faithful acceptRefusal
+unfolding cellFaithful headFaithful blockFaithful wordsFaithful faithful acceptRefusal
 in-faithful = tt
 
 unfoldable in-named-events : Unit {0}

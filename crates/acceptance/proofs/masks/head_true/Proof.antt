@@ -13,7 +13,7 @@ use Rattle.sets.proofs.Loops.{passed, failed}
 use Rattle.meaning.specs.Table.{timersIn}
 use Rattle.table.proofs.Places.{timers-read}
 use Rattle.table.proofs.LayoutFacts.{head-sound, b-le}
-use Rattle.acceptance.specs.Heads.{headTrue}
+use Rattle.meaning.specs.Faithful.{headFaithful}
 use Rattle.acceptance.proofs.MaskLaws.{masks-length, part-distinct, timers-inside, head-fails, head-i, noted-next}
 use Rattle.acceptance.proofs.masks.head_true.Statement.{statement}
 use Rattle.acceptance.proofs.masks.head_true.Tie as tie
@@ -107,7 +107,7 @@ returns-3 c =
     let r = n .before .before .before in
     let p = placed r in
     let s = entry (judged p) in
-    let yes : headTrue (s .args .sheet .now) (s .args .table .now) (s .args .b) ≡ true =
+    let yes : headFaithful (s .args .sheet .now) (s .args .table .now) (s .args .b) ≡ true =
     head-i (s .pre .0) (s .pre .1)
     (passed (judged p .is-consistent .ensures) (p .before .before .before .if1 .left))
     (omega (arith, p .place .ensures .0, ltb-false (p .place .result) (s .args .b - 1) (r .before .before .before .if2 .left)))

@@ -9,7 +9,8 @@ use lib.ListN.{length}
 use Rattle.sets.proofs.Tests.{is-true, of-true}
 use Rattle.sets.proofs.Loops.{every-fails, every-done, failed}
 use Rattle.meaning.specs.Table.{bIn}
-use Rattle.acceptance.specs.Heads.{headTrue, Noted}
+use Rattle.meaning.specs.Faithful.{headFaithful}
+use Rattle.acceptance.specs.Heads.{Noted}
 use Rattle.acceptance.proofs.MaskLaws.{masks-length, noted-first}
 use Rattle.acceptance.proofs.masks.heads_true.Statement.{statement}
 use Rattle.acceptance.proofs.masks.heads_true.Tie as tie
@@ -44,7 +45,7 @@ returns c =
     let h = c .before .before .before in
     let l = turn h .before in
     let a = entry l .args in
-    let p = headTrue (a .sheet .now) (a .table .now) in
+    let p = headFaithful (a .sheet .now) (a .table .now) in
     sym (every-fails p _ (l .loop .b) (below (turn h)) (failed {c = p (l .loop .b)} (h .head-true .ensures .0) (c .if1 .taken)))
 
 add-b : tie.Need-add-b Inv-loop μ-loop
