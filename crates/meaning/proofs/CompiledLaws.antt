@@ -14,7 +14,9 @@ use Rattle.meaning.specs.Lists.{overwritten, refusedIf}
 use Rattle.meaning.specs.Check.{sheetRefusal}
 use Rattle.meaning.specs.Hierarchy.{consistent}
 use Rattle.meaning.specs.Tick.{tick}
-use Rattle.meaning.specs.Compile.{Walk, walk, tableWords, compileRefusal, compile}
+use Rattle.meaning.specs.Walk.{Walk, walk}
+use Rattle.meaning.specs.Idle.{leavesIdle}
+use Rattle.meaning.specs.Compile.{tableWords, compileRefusal, compile}
 use Rattle.meaning.specs.Acceptance.{Accepted, CompiledAccepted}
 use Rattle.meaning.proofs.RefusalLaws.{none-met, first-alone, unmet}
 use Rattle.meaning.proofs.SheetLaws.{Sound, sound}
@@ -24,22 +26,26 @@ use Rattle.meaning.proofs.AcceptanceLaws.{accepted-i}
 use Rattle.meaning.proofs.TableFaithful.{table-faithful}
 use Rattle.meaning.proofs.TableSound.{table-ok}
 
--- where nothing is refused, neither the sheet nor the walk is, and the table slice is long enough
+-- where nothing is refused, neither the sheet nor the walk is, no arrow is idle, and the table slice is long enough
 pub record CompileAccepts (s : List ℕ) (o : Walk) (m : ℕ) : Type 0 where
   pub passes : sheetRefusal s ≡ 0
   pub walked : o .refusal ≡ 0
+  pub no-idle : leavesIdle s (o .listed) ≡ false
   pub room : length (tableWords s (o .listed)) ≤ m
 
 pub compile-accepts : (s : List ℕ) (o : Walk) (m : ℕ) → compileRefusal s o m ≡ 0 → CompileAccepts s o m
 unfolding compileRefusal
 compile-accepts s o m h =
     let short = ltb m (length (tableWords s (o .listed))) in
-    let a = none-met (sheetRefusal s) (o .refusal ∷ refusedIf short 10 ∷ []) h in
-    let b = none-met (o .refusal) (refusedIf short 10 ∷ []) (a .1) in
+    let idle = leavesIdle s (o .listed) in
+    let a = none-met (sheetRefusal s) (o .refusal ∷ refusedIf idle 21 ∷ refusedIf short 10 ∷ []) h in
+    let b = none-met (o .refusal) (refusedIf idle 21 ∷ refusedIf short 10 ∷ []) (a .1) in
+    let c = none-met (refusedIf idle 21) (refusedIf short 10 ∷ []) (b .1) in
     record {
       passes = a .0;
       walked = b .0;
-      room = ltb-false m (length (tableWords s (o .listed))) (unmet short 10 (λ z. omega arith) (sym (first-alone (refusedIf short 10)) ∙ b .1));
+      no-idle = unmet idle 21 (λ z. omega arith) (c .0);
+      room = ltb-false m (length (tableWords s (o .listed))) (unmet short 10 (λ z. omega arith) (sym (first-alone (refusedIf short 10)) ∙ c .1));
     }
 
 module _ (s table work : List ℕ) where

@@ -20,7 +20,8 @@ use Rattle.meaning.specs.Hierarchy.{consistent}
 use Rattle.meaning.specs.Reaction.{TickSets, isTimer, delay, running}
 use Rattle.meaning.specs.Tick.{fiveWords}
 use Rattle.meaning.specs.Table.{wordIn, kIn, tIn, bIn, sourceIn, delayIn, maskIn, timersIn, cellsIn, cellWord}
-use Rattle.meaning.specs.Compile.{timerWord, cellTick}
+use Rattle.meaning.specs.Walk.{cellTick}
+use Rattle.meaning.specs.Compile.{timerWord}
 use Rattle.meaning.specs.Faithful.{cellFaithful, headFaithful, blockFaithful, wordsFaithful, faithful}
 use Rattle.meaning.proofs.ListLaws.{allOf-e, allOf-i, _▹_, rowFrom-at, rowFrom-length}
 use Rattle.meaning.proofs.SheetLaws.{Sound}

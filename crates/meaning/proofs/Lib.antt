@@ -32,6 +32,7 @@ pub mod WithinLaws
 pub mod TableFaithful
 pub mod TableSound
 pub mod CompiledLaws
+pub mod IdleLaws
 pub mod MillisecondsLaws
 pub mod Bounds
 pub mod Theorem

@@ -9,6 +9,8 @@ use native.Mathlib.Omega.{arith}
 use lib.Dec.{T, eqb, eqb→eq, eqb-refl, ltb, lt→ltb}
 use lib.ListN.{length, getD, length-append, take, drop}
 use lib.Seq.{ext-getD, take-at, drop-at}
+use Rattle.sets.specs.Sets.{has, unionOf}
+use Rattle.sets.proofs.Unions.{unionOf-e, unionOf-i}
 use Rattle.sets.proofs.Tests.{and-l, and-r, and-i, or-e, or-l, or-r, below-or-not}
 use Rattle.meaning.specs.Lists.{rowFrom, isIn, allOf, firstOf}
 
@@ -156,6 +158,16 @@ rowFrom-getD {A} l a =
 -- the end of a loop that fills an array word by word with f 0, f 1, ..
 pub row-done : (f : ℕ → ℕ) (r : List ℕ) (w : ℕ) → length r ≡ w → ((u : ℕ) → u < w → getD r u 0 ≡ f u) → r ≡ rowFrom 0 w f
 row-done f r w n h = rw n at (rowFrom-getD r 0) ∙ rowFrom-ext (λ u. getD r u 0) f 0 w (λ u a b. h u (omega arith))
+
+-- the union of a row of sets
+pub row-union-e : (f : ℕ → ℕ) (n i : ℕ) → T (has (unionOf (rowFrom 0 n f)) i) → (j : ℕ) × (j < n) × T (has (f j) i)
+row-union-e f n i h =
+    let r = unionOf-e (rowFrom 0 n f) i h in
+    let k : r .0 < n = rw (rowFrom-length f 0 n) at (r .1) in
+    (r .0, k, rw (row-at n f (r .0) k) at (r .2))
+
+pub row-union-i : (f : ℕ → ℕ) (n j i : ℕ) → j < n → T (has (f j) i) → T (has (unionOf (rowFrom 0 n f)) i)
+row-union-i f n j i h k = unionOf-i (rowFrom 0 n f) j i (rw (rowFrom-length f 0 n) h) (rw (row-at n f j h) k)
 
 -- a member of the list has p
 unfoldable pub anyOf : (ℕ → Bool) → List ℕ → Bool

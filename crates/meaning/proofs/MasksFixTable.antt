@@ -15,7 +15,7 @@ use Rattle.meaning.specs.Lists.{rowFrom}
 use Rattle.meaning.specs.Reaction.{running}
 use Rattle.meaning.specs.Tick.{Tick, fiveWords}
 use Rattle.meaning.specs.Table.{wordIn, kIn, tIn, bIn, offsetIn, lengthIn, endBeforeIn, maskIn, timersIn, cellsIn, cellWord, tableOk}
-use Rattle.meaning.specs.Compile.{cellTick}
+use Rattle.meaning.specs.Walk.{cellTick}
 use Rattle.meaning.specs.Faithful.{faithful}
 use Rattle.meaning.specs.Acceptance.{MasksFixTable}
 use Rattle.meaning.proofs.ListLaws.{steps-find, rowFrom-at}

@@ -20,7 +20,7 @@ use Rattle.meaning.specs.Run.{State, reading, dueTimers, nextReadings, n
 use Rattle.meaning.specs.SheetRun.{tickFrom, stateAfter, sheetStep, sheetTicks}
 use Rattle.meaning.specs.Table.{kIn, bIn, sourceIn, delayIn, maskIn, timersIn, cellsIn, cellWord, tableOk}
 use Rattle.meaning.specs.TableRun.{dueNumber, cellOf, stateAfterCell, isStale, tableStep, tableTicks}
-use Rattle.meaning.specs.Compile.{dueSet, cellTick}
+use Rattle.meaning.specs.Walk.{dueSet, cellTick}
 use Rattle.meaning.specs.Faithful.{faithful}
 use Rattle.meaning.specs.WholeList.{legal}
 use Rattle.meaning.proofs.SheetLaws.{Sound}

@@ -17,7 +17,7 @@ use Rattle.meaning.specs.Sheet.{kOf}
 use Rattle.meaning.specs.Hierarchy.{consistent}
 use Rattle.meaning.specs.Reaction.{running}
 use Rattle.meaning.specs.Tick.{tick}
-use Rattle.meaning.specs.Compile.{Walk, dueSet, workListFull, timersMany, cellCount, cellTick, listing, cellsFrom, walkFrom, walk}
+use Rattle.meaning.specs.Walk.{Walk, dueSet, workListFull, timersMany, cellCount, cellTick, listing, cellsFrom, walkFrom, walk}
 use Rattle.meaning.proofs.ListedLaws.{distinct-none, distinct-more, isIn-one, isIn-one-e, isIn-append-r, isIn-append-e, isIn-at, Prefix, prefix-trans, prefix-isIn, prefix-at}
 use Rattle.meaning.proofs.WalkFuel.{cells-grown, walk-from-grown}
 

@@ -5,12 +5,14 @@ use mathlib.Core.Bool.{true, false}
 use mathlib.Core.List.{List, [], _∷_, _++_}
 use Prim.Native.Nat.{ℕ, _+_, _-_, _^_}
 use lib.ListN.{replicate, set}
+use Rattle.sets.specs.Sets.{single}
 use Rattle.meaning.specs.Lists.{rowFrom}
 use Rattle.meaning.specs.Tick.{tick}
 use Rattle.meaning.specs.Run.{powerOn}
 use Rattle.meaning.specs.SheetRun.{sheetRun}
 use Rattle.meaning.specs.TableRun.{tableRun}
-use Rattle.meaning.specs.Compile.{compile}
+use Rattle.meaning.specs.Idle.{idle}
+use Rattle.meaning.specs.Compile.{tableWords, compile}
 use Rattle.meaning.specs.Within.{masksOf}
 use Rattle.meaning.specs.Milliseconds.{milliseconds}
 use Rattle.meaning.specs.Acceptance.{acceptRefusal}
@@ -92,6 +94,14 @@ inside-and-leaving =
     sheetOf 1 (serial 0 1 ∷ parallel 0 ∷ atomic 0 ∷ serial 1 4 ∷ atomic 3 ∷ atomic 3 ∷ atomic 1 ∷ [])
     (transition 4 5 (present 0) ∷ transition 6 2 (present 0) ∷ [])
 
+-- its table, which compile does not make
+abbrev leaving-table : List ℕ
+leaving-table = tableWords inside-and-leaving (91 ∷ 5 ∷ [])
+
+-- 1→2 without delay: mode 1 is left as soon as it is entered
+abbrev left-at-power-on : List ℕ
+left-at-power-on = sheetOf 0 two-modes (transition 1 2 (after 0) ∷ [])
+
 -- one source contains the other and both meet in the root: 1→2 and 3→2, where 1 contains 3
 abbrev equal-levels : List ℕ
 equal-levels =
@@ -160,6 +170,12 @@ abbrev two-timers : List ℕ
 two-timers =
     sheetOf 0 (parallel 0 ∷ serial 0 3 ∷ serial 0 5 ∷ atomic 1 ∷ atomic 1 ∷ atomic 2 ∷ atomic 2 ∷ []) (transition 3 4 (after 1) ∷ transition 5 6 (after 2) ∷ [])
 
+-- two regions with timers of 1 tick from power-on, always due together: 3→4 and 5→6; and 3→7 once 5→6 is taken
+abbrev due-together : List ℕ
+due-together =
+    sheetOf 0 (parallel 0 ∷ serial 0 3 ∷ serial 0 5 ∷ atomic 1 ∷ atomic 1 ∷ atomic 2 ∷ atomic 2 ∷ atomic 1 ∷ [])
+    (transition 3 4 (after 1) ∷ transition 5 6 (after 1) ∷ transition 3 7 (taken 1) ∷ [])
+
 abbrev two-timers-table : List ℕ
 two-timers-table = compile two-timers (lent 91) (lent 4) .table
 
@@ -196,6 +212,7 @@ pub record Examples : Type 0 where
   -- every cell counts: of the second timer due alone, which no clock brings, too
   pub all-cells : acceptRefusal two-timers two-timers-table ≡ 0
   pub cell-not-brought : acceptRefusal two-timers (set two-timers-table 43 0) ≡ 17
+  -- (P): a sheet that is accepted has no idle arrow
   -- "1→2 and 2→1 both on event 0: 9; 1→2 and 1→3 both on event 0: 8, on present and absent: accepted"
   pub both-ways : refusal to-and-fro ≡ 9
   pub both-present : refusal (fork (present 0) (present 0)) ≡ 8
@@ -209,10 +226,22 @@ pub record Examples : Type 0 where
   pub modes-32 : refusal (flat 31) ≡ 0
   pub modes-33 : refusal (flat 32) ≡ 1
   -- Ask 2: "in a parallel mode, one region moving inside while another leaves the whole mode on the same event" "becomes accepted, with the
-  -- leaving transition taken"
-  pub leaving : refusal inside-and-leaving ≡ 0
+  -- leaving transition taken"; Ask 8: "The last (P) example, if its inner arrow always gives way, is then refused", with no table words as
+  -- well; "work list as for 10"
   pub leaving-taken : first-tick inside-and-leaving 1 ≡ 95 ∷ 90 ∷ 95 ∷ 2 ∷ 0 ∷ []
-  pub leaving-in-table : tableRun (compile inside-and-leaving (lent 57) (lent 2) .table) powerOn (1 ∷ []) (lent 5) .out ≡ 95 ∷ 90 ∷ 95 ∷ 2 ∷ 0 ∷ []
+  pub inner-idle : idle inside-and-leaving (91 ∷ 5 ∷ []) ≡ single 0
+  pub leaving : compile inside-and-leaving (lent 57) (lent 3)
+      ≡ record { refusal = 21; f = 2; tableLength = 0; work = 91 ∷ 5 ∷ 7 ∷ []; table = lent 57 }
+  pub idle-no-table : compile inside-and-leaving [] (lent 2) ≡ record { refusal = 21; f = 2; tableLength = 0; work = 91 ∷ 5 ∷ []; table = [] }
+  -- "after the walk's 7, 8, 9 and 11, before 10": a full work list comes first; where no arrow is idle 10 follows
+  pub full-before-idle : compile inside-and-leaving [] (lent 1) .refusal ≡ 11
+  pub short-after-idle : compile sheet [] (lent 2) ≡ record { refusal = 10; f = 2; tableLength = 0; work = 3 ∷ 5 ∷ []; table = [] }
+  -- cells of block 0 count, and of due combinations that no clock brings
+  pub at-power-on : refusal left-at-power-on ≡ 0
+  pub not-together : refusal due-together ≡ 0
+  -- "sheet runs and Ask 4 keep the old admission"
+  pub idle-accepted : acceptRefusal inside-and-leaving leaving-table ≡ 0
+  pub leaving-in-table : tableRun leaving-table powerOn (1 ∷ []) (lent 5) .out ≡ 95 ∷ 90 ∷ 95 ∷ 2 ∷ 0 ∷ []
   -- "of equal meeting modes neither gives way, even where one source contains the other": 8, which document 01 accepts
   pub neither : refusal equal-levels ≡ 8
   -- of three levels the highest that is triggered is taken
@@ -279,8 +308,15 @@ examples =
       no-mode = refl;
       modes-32 = refl;
       modes-33 = refl;
-      leaving = refl;
       leaving-taken = refl;
+      inner-idle = refl;
+      leaving = refl;
+      idle-no-table = refl;
+      full-before-idle = refl;
+      short-after-idle = refl;
+      at-power-on = refl;
+      not-together = refl;
+      idle-accepted = refl;
       leaving-in-table = refl;
       neither = refl;
       levels-accepted = refl;

@@ -11,6 +11,8 @@ pub mod Run
 pub mod SheetRun
 pub mod Table
 pub mod TableRun
+pub mod Walk
+pub mod Idle
 pub mod Compile
 pub mod Milliseconds
 pub mod Refusal
@@ -19,6 +21,7 @@ pub mod OneByOne
 pub mod WholeList
 pub mod Faithful
 pub mod Acceptance
+pub mod NoIdleArrows
 pub mod HighestLevelFirst
 pub mod NamedEvents
 pub mod Promises

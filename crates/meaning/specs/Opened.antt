@@ -1,7 +1,7 @@
 -- The names that a proof by computing unfolds, in one place, file by file: whoever unfolds `opened` unfolds every definition of the
 -- meaning. Assumes nothing.
 use mathlib.Core.List.{flatten}
-use Rattle.sets.specs.Sets.{digit, has, minus, setOf, those, members, size, some, every, someIn, everyIn}
+use Rattle.sets.specs.Sets.{digit, has, minus, unionOf, setOf, those, members, size, some, every, someIn, everyIn}
 use Rattle.meaning.specs.Lists.{rowFrom, isIn, place, overwritten, allOf, firstOf, refusedIf, firstRefusal}
 use Rattle.meaning.specs.Sheet.{word, nOf, kOf, tOf, kind, parent, first, offset, recordLength, endBefore, source, target, termCount, termKind, termValue, isChild, containsIn, contains, strictlyContains, meetingFrom, meetingOf, meeting}
 use Rattle.meaning.specs.Check.{headOk, modeOk, modesOk, pairOk, pairsOk, endOk, endsOk, kindOk, termOk, termsOk, sharesEnds, distinctOk, sheetRefusal}
@@ -14,14 +14,16 @@ use Rattle.meaning.specs.Run.{reading, powerOn, isFresh, readingsOk, due
 use Rattle.meaning.specs.SheetRun.{stateOk, tickFrom, stateAfter, sheetStep, sheetRun}
 use Rattle.meaning.specs.Table.{wordIn, kIn, tIn, bIn, sourceIn, delayIn, offsetIn, lengthIn, endBeforeIn, maskIn, timersIn, cellsIn, cellWord, timerOk, blockOk, tableOk}
 use Rattle.meaning.specs.TableRun.{dueNumber, tableStateOk, cellOf, stateAfterCell, isStale, tableStep, tableRun}
-use Rattle.meaning.specs.Compile.{dueSet, pairsFrom, workListFull, timersMany, cellCount, cellTick, listing, cellsFrom, walkFrom, walk, timerWord, cellWords, blockWords, tableWords, compileRefusal, compile}
+use Rattle.meaning.specs.Walk.{dueSet, workListFull, timersMany, cellCount, cellTick, listing, cellsFrom, walkFrom, walk}
+use Rattle.meaning.specs.Idle.{takenInBlock, takenIn, idle, leavesIdle}
+use Rattle.meaning.specs.Compile.{pairsFrom, timerWord, cellWords, blockWords, tableWords, compileRefusal, compile}
 use Rattle.meaning.specs.Milliseconds.{ticksAndRests, resultsShort, ticksOutOfRange, milliseconds}
 use Rattle.meaning.specs.Faithful.{cellFaithful, headFaithful, blockFaithful, wordsFaithful, faithful}
 use Rattle.meaning.specs.Acceptance.{acceptRefusal}
 use Rattle.meaning.specs.NamedEvents.{names}
 
 unfoldable in-sets : Unit {0}
-unfolding digit has minus setOf those members size some every someIn everyIn
+unfolding digit has minus unionOf setOf those members size some every someIn everyIn
 in-sets = tt
 
 unfoldable in-lists : Unit {0}
@@ -72,8 +74,12 @@ unfoldable in-table-run : Unit {0}
 unfolding dueNumber tableStateOk cellOf stateAfterCell isStale tableStep tableRun
 in-table-run = tt
 
+unfoldable in-walk : Unit {0}
+unfolding dueSet workListFull timersMany cellCount cellTick listing cellsFrom walkFrom walk takenInBlock takenIn idle leavesIdle
+in-walk = tt
+
 unfoldable in-compile : Unit {0}
-unfolding dueSet pairsFrom workListFull timersMany cellCount cellTick listing cellsFrom walkFrom walk timerWord cellWords blockWords tableWords compileRefusal compile
+unfolding pairsFrom timerWord cellWords blockWords tableWords compileRefusal compile
 in-compile = tt
 
 unfoldable in-milliseconds : Unit {0}
@@ -89,5 +95,5 @@ unfolding names
 in-named-events = tt
 
 unfoldable pub opened : Unit {0}
-unfolding in-sets in-lists in-sheet in-check in-hierarchy in-gives-way in-reaction in-within in-tick in-run in-sheet-run in-table in-table-run in-compile in-milliseconds in-faithful in-named-events
+unfolding in-sets in-lists in-sheet in-check in-hierarchy in-gives-way in-reaction in-within in-tick in-run in-sheet-run in-table in-table-run in-walk in-compile in-milliseconds in-faithful in-named-events
 opened = tt

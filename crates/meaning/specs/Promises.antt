@@ -18,7 +18,7 @@ use Rattle.meaning.specs.Run.{State}
 use Rattle.meaning.specs.SheetRun.{stateOk, tickFrom, stateAfter, sheetStep, sheetTicks, sheetRun}
 use Rattle.meaning.specs.TickInWords.{timedTick, timedState}
 use Rattle.meaning.specs.OneByOne.{Reaction, isTriggered, eligibleIn, takeInOrder, takeTogether}
-use Rattle.meaning.specs.Compile.{walkFrom, walk}
+use Rattle.meaning.specs.Walk.{walkFrom, walk}
 use Rattle.meaning.specs.Acceptance.{AcceptedServes, CompiledAccepted, MasksFixTable, TableStateStays, TableRunsOn, AcceptedNotStale}
 use Rattle.meaning.specs.HighestLevelFirst.{HighestLevelFirst}
 use Rattle.meaning.specs.NamedEvents.{NamedEvents}

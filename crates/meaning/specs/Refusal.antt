@@ -1,7 +1,7 @@
 -- The number of each refusal, by who causes it, with the definition that is its condition. Assumes nothing.
 use Prim.Native.Nat.{ℕ}
 use Rattle.meaning.specs.declared.refusal.Refusal.{Refusal}
-use Rattle.meaning.specs.declared.refusal.Refusal.the-variants.{Nothing, Head, ModeRow, Pair, Ends, Term, SharedEnds, TooManyTimers, Ambiguous, Restless, ShortTable, FullWorkList, ShortOutput, InputSet, State, Layout, Transition, Unfaithful, Stations, Parts, TickRange}
+use Rattle.meaning.specs.declared.refusal.Refusal.the-variants.{Nothing, Head, ModeRow, Pair, Ends, Term, SharedEnds, TooManyTimers, Ambiguous, Restless, ShortTable, FullWorkList, ShortOutput, InputSet, State, Layout, Transition, Unfaithful, Stations, Parts, TickRange, IdleArrow}
 
 abbrev pub numberOf : Refusal → ℕ
 numberOf Nothing = 0
@@ -35,3 +35,5 @@ numberOf Stations = 18
 numberOf Parts = 19
 -- whoever converts milliseconds: `ticksOutOfRange` (Milliseconds)
 numberOf TickRange = 20
+-- whoever draws: `leavesIdle` (Idle)
+numberOf IdleArrow = 21

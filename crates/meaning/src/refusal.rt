@@ -25,6 +25,7 @@ pub enum Refusal {
     Stations,
     Parts,
     TickRange,
+    IdleArrow,
 }
 
 // The number of a refusal, 0 for none.
@@ -53,5 +54,6 @@ pub fn number(why: Refusal) -> u32
         Refusal::Stations => 18,
         Refusal::Parts => 19,
         Refusal::TickRange => 20,
+        Refusal::IdleArrow => 21,
     }
 }

@@ -2,7 +2,6 @@
 ghost use mathlib.Core.Path.{_≡_};
 ghost use Prim.Native.Nat.{_<_, _≤_};
 ghost use lib.ListN.{length};
-ghost use Rattle.sets.specs.Sets.{below};
 ghost use Rattle.rows.specs.Over.{over};
 ghost use Rattle.meaning.specs.Lists.{rowFrom};
 ghost use Rattle.meaning.specs.Sheet.{tOf};
@@ -52,23 +51,12 @@ pub fn classes_of(sheet: &[u32]) -> Classed
     Classed { timing, certain }
 }
 
-// All transitions below a count.
-fn below(count: usize) -> u64
-    requires { ⌜ count ≤ 64 ⌝ }
-    ensures { λ r. ⌜ r ≡ below count ⌝ }
-{
-    if count == 0 {
-        return 0;
-    }
-    0xffff_ffff_ffff_ffff >> (64 - count)
-}
-
 // The transitions that are neither.
 pub fn mixed(sheet: &[u32], timing: u64, certain: u64) -> u64
     requires { ⌜ (sheetRefusal (now sheet) ≡ 0) × (timing ≡ timers (now sheet)) × (certain ≡ sure (now sheet)) ⌝ }
     ensures { λ r. ⌜ r ≡ mixed (now (sheet .entry)) ⌝ }
 {
-    transitions::minus(below(transition_count(sheet)), timing | certain)
+    transitions::minus(transitions::below(transition_count(sheet)), timing | certain)
 }
 
 // Those of them whose terms can hold before anything is entered, exited or taken: on every event present and absent, in all modes.

@@ -7,3 +7,4 @@ pub mod Those
 pub mod Loops
 pub mod Widths
 pub mod Highest
+pub mod Unions

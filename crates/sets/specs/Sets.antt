@@ -21,6 +21,11 @@ meet a b = bitAnd a b
 unfoldable pub minus : ℕ → ℕ → ℕ
 minus a b = a - bitAnd a b
 
+-- in one of the list's sets
+unfoldable pub unionOf : List ℕ → ℕ
+unionOf [] = 0
+unionOf (x ∷ xs) = union x (unionOf xs)
+
 -- the two have a member in common
 abbrev pub meets : ℕ → ℕ → Bool
 meets a b = not (eqb (meet a b) 0)

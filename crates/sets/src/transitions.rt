@@ -2,7 +2,7 @@
 ghost use mathlib.Core.Path.{_≡_};
 ghost use Prim.Native.Nat.{ℕ, _+_, _*_, _/_, _%_, _^_, _≤_, _<_};
 ghost use lib.ListN.{length, getD};
-ghost use Rattle.sets.specs.Sets.{has, minus, meets, single, digit, size, lowest, someIn};
+ghost use Rattle.sets.specs.Sets.{has, minus, meets, single, below, digit, size, lowest, someIn};
 use super::modes;
 
 // Transition t is in the set.
@@ -19,6 +19,17 @@ pub fn single(t: usize) -> u64
     ensures { λ r. ⌜ r ≡ single t ⌝ }
 {
     1 << t
+}
+
+// The set of all transitions below n.
+pub fn below(n: usize) -> u64
+    requires { ⌜ n ≤ 64 ⌝ }
+    ensures { λ r. ⌜ r ≡ below n ⌝ }
+{
+    if n == 0 {
+        return 0;
+    }
+    0xffff_ffff_ffff_ffff >> (64 - n)
 }
 
 // The set of t alone where a test holds, else the empty set.

@@ -1,9 +1,9 @@
--- `planner::classes::below` meets its contract. Assumes nothing.
+-- `sets::transitions::below` meets its contract. Assumes nothing.
 use native.Mathlib.Omega.{arith}
 use borrow.Author.Needs.{needs}
 use Rattle.sets.proofs.Membership.{ones-shr}
-use Rattle.planner.proofs.classes.below.Statement.{statement}
-use Rattle.planner.proofs.classes.below.Tie as tie
+use Rattle.sets.proofs.transitions.below.Statement.{statement}
+use Rattle.sets.proofs.transitions.below.Tie as tie
 
 returns : tie.Need-returns
 returns c = rw (c .if1 .taken)
@@ -15,7 +15,7 @@ shr-result : tie.Need-shr-result
 shr-result c = search needs
 
 returns-2 : tie.Need-returns-2
-returns-2 c = ones-shr 64 (c .before .args .count) (omega arith)
+returns-2 c = ones-shr 64 (c .before .args .n) (omega arith)
 
 pub below-spec : {M : Type 1} → statement M
 below-spec = tie.close (tie.spec returns sub-result shr-result returns-2)
