@@ -1,6 +1,6 @@
 // Timers, the transitions that input sets trigger by themselves, and the rest.
 ghost use mathlib.Core.Path.{_≡_};
-ghost use Prim.Native.Nat.{_<_, _≤_};
+ghost use Prim.Native.Nat.{_<_};
 ghost use lib.ListN.{length};
 ghost use Rattle.rows.specs.Over.{over};
 ghost use Rattle.meaning.specs.Lists.{rowFrom};
@@ -56,7 +56,10 @@ pub fn mixed(sheet: &[u32], timing: u64, certain: u64) -> u64
     requires { ⌜ (sheetRefusal (now sheet) ≡ 0) × (timing ≡ timers (now sheet)) × (certain ≡ sure (now sheet)) ⌝ }
     ensures { λ r. ⌜ r ≡ mixed (now (sheet .entry)) ⌝ }
 {
-    transitions::minus(transitions::below(transition_count(sheet)), timing | certain)
+    transitions::minus(
+        transitions::below(transition_count(sheet)),
+        timing | certain,
+    )
 }
 
 // Those of them whose terms can hold before anything is entered, exited or taken: on every event present and absent, in all modes.
