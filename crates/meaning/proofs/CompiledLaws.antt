@@ -1,17 +1,17 @@
 -- What compile leaves, by its one refusal: nothing in the table, or a table that is accepted for the sheet. Assumes nothing.
 use mathlib.Core.Path.{_≡_, refl, sym, _∙_, subst}
 use mathlib.Core.Logic.{_⊎_}
-use mathlib.Core.Bool.{Bool, true, false, cond}
+use mathlib.Core.Bool.{Bool, true, false, not, cond}
 use mathlib.Core.List.{List, [], _∷_}
-use Prim.Native.Nat.{ℕ, _≤_, zero-le}
+use Prim.Native.Nat.{ℕ, suc, _+_, _≤_, zero-le}
 use native.Mathlib.Nat.{le-trans, min-le-right}
 use native.Mathlib.Omega.{arith}
 use lib.Dec.{T, eqb, ltb}
 use lib.ListN.{length, take, drop}
 use lib.Seq.{take-append-seam}
 use borrow.Author.Tests.{eqb-true, eq-eqb, ltb-false}
-use Rattle.meaning.specs.Lists.{overwritten, refusedIf}
-use Rattle.meaning.specs.Check.{sheetRefusal}
+use Rattle.meaning.specs.Lists.{overwritten, firstOf, refusedIf, firstRefusal}
+use Rattle.meaning.specs.Check.{headOk, modesOk, pairsOk, endsOk, termsOk, distinctOk, sheetRefusal}
 use Rattle.meaning.specs.Hierarchy.{consistent}
 use Rattle.meaning.specs.Tick.{tick}
 use Rattle.meaning.specs.Walk.{Walk, walk}
@@ -25,6 +25,32 @@ use Rattle.meaning.proofs.WalkLaws.{walk-closed}
 use Rattle.meaning.proofs.AcceptanceLaws.{accepted-i}
 use Rattle.meaning.proofs.TableFaithful.{table-faithful}
 use Rattle.meaning.proofs.TableSound.{table-ok}
+
+-- ---- which refusal is given
+
+-- the number of a test that applies is at most the last one's
+firstOf-le : (i : ℕ) (bs : List Bool) → firstOf (suc i) bs ≤ i + length bs
+unfolding firstOf
+firstOf-le i [] = zero-le
+firstOf-le i (b ∷ bs) = go b (firstOf-le (suc i) bs)
+  where
+    go : (c : Bool) → firstOf (suc (suc i)) bs ≤ suc i + length bs → cond c (suc i) (firstOf (suc (suc i)) bs) ≤ i + suc (length bs)
+    go true h = omega arith
+    go false h = omega arith
+
+-- a sheet is refused 1 to 6, or not at all
+sheet-refusal : (s : List ℕ) → sheetRefusal s ≤ 6
+unfolding sheetRefusal
+sheet-refusal s = firstOf-le 0 (not (headOk s) ∷ not (modesOk s) ∷ not (pairsOk s) ∷ not (endsOk s) ∷ not (termsOk s) ∷ not (distinctOk s) ∷ [])
+
+-- where another refusal than the first is given, the first is not met
+other-met : (e r : ℕ) (es : List ℕ) → (e ≡ r → ⊥) → firstRefusal (e ∷ es) ≡ r → (e ≡ 0) × (firstRefusal es ≡ r)
+unfolding firstRefusal
+other-met e r es n h = go (eqb e 0) refl h
+  where
+    go : (b : Bool) → eqb e 0 ≡ b → cond b (firstRefusal es) e ≡ r → (e ≡ 0) × (firstRefusal es ≡ r)
+    go true z k = (eqb-true e 0 z, k)
+    go false z k = absurd (n k)
 
 -- where nothing is refused, neither the sheet nor the walk is, no arrow is idle, and the table slice is long enough
 pub record CompileAccepts (s : List ℕ) (o : Walk) (m : ℕ) : Type 0 where
@@ -48,6 +74,30 @@ compile-accepts s o m h =
       room = ltb-false m (length (tableWords s (o .listed))) (unmet short 10 (λ z. omega arith) (sym (first-alone (refusedIf short 10)) ∙ c .1));
     }
 
+-- where 21 is given, the sheet is not refused, nor the walk, and an arrow is idle; and the other way round
+pub record CompileIdle (s : List ℕ) (o : Walk) : Type 0 where
+  pub passes : sheetRefusal s ≡ 0
+  pub walked : o .refusal ≡ 0
+  pub some-idle : leavesIdle s (o .listed) ≡ true
+
+pub compile-idle-i : (s : List ℕ) (o : Walk) (m : ℕ) → CompileIdle s o → compileRefusal s o m ≡ 21
+unfolding compileRefusal firstRefusal refusedIf
+compile-idle-i s o m h = rw (h .passes, h .walked, h .some-idle)
+
+pub compile-idle-e : (s : List ℕ) (o : Walk) (m : ℕ) → o .refusal ≤ 11 → compileRefusal s o m ≡ 21 → CompileIdle s o
+unfolding compileRefusal firstRefusal refusedIf
+compile-idle-e s o m low h =
+    let short = ltb m (length (tableWords s (o .listed))) in
+    let idle = leavesIdle s (o .listed) in
+    let a = other-met (sheetRefusal s) 21 (o .refusal ∷ refusedIf idle 21 ∷ refusedIf short 10 ∷ []) (λ e. omega (arith, sheet-refusal s)) h in
+    let b = other-met (o .refusal) 21 (refusedIf idle 21 ∷ refusedIf short 10 ∷ []) (λ e. omega arith) (a .1) in
+    record { passes = a .0; walked = b .0; some-idle = go idle short (b .1) }
+  where
+    go : (i j : Bool) → firstRefusal (refusedIf i 21 ∷ refusedIf j 10 ∷ []) ≡ 21 → i ≡ true
+    go true j k = refl
+    go false true k = absurd (omega arith)
+    go false false k = absurd (omega arith)
+
 module _ (s table work : List ℕ) where
   -- the table's length is at most that of the lent slice
   pub compile-length : compile s table work .tableLength ≤ length table
@@ -67,7 +117,7 @@ module _ (s table work : List ℕ) where
           subst (λ (c : Bool). length (tableWords s (cond c (o .listed) [])) ≤ length table) (sym (eq-eqb (sheetRefusal s) 0 (a .passes))) (a .room)
 
   -- the words that it leaves are the table of the walk
-  compiled-words : compile s table work .refusal ≡ 0
+  pub compiled-words : compile s table work .refusal ≡ 0
       → take (compile s table work .tableLength) (compile s table work .table) ≡ tableWords s (walk s (length work) .listed)
   unfolding compile overwritten
   compiled-words h =

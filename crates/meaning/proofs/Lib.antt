@@ -33,6 +33,7 @@ pub mod TableFaithful
 pub mod TableSound
 pub mod CompiledLaws
 pub mod IdleLaws
+pub mod NoIdleArrows
 pub mod MillisecondsLaws
 pub mod Bounds
 pub mod Theorem

@@ -19,6 +19,7 @@ use Rattle.meaning.proofs.HighestLevel.{highest-level-first}
 use Rattle.meaning.proofs.NamedLaws.{named-events}
 use Rattle.meaning.proofs.WithinLaws.{mask-exact, mask-no-other, conflict-by-mask, gives-way-by-mask}
 use Rattle.meaning.proofs.MillisecondsLaws.{whole-delay, rest-below, ticks-fit}
+use Rattle.meaning.proofs.NoIdleArrows.{idle-refused, refused-idle, idle-leaves, every-arrow-taken}
 use Rattle.meaning.proofs.SheetLaws.{sound}
 use Rattle.meaning.proofs.CompiledLaws.{compiled-accepted-from}
 
@@ -72,4 +73,8 @@ promised =
       wholeDelay = whole-delay;
       restBelow = rest-below;
       ticksFit = ticks-fit;
+      idleRefused = idle-refused;
+      refusedIdle = refused-idle;
+      idleLeaves = idle-leaves;
+      everyArrowTaken = every-arrow-taken;
     }

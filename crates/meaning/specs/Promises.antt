@@ -24,6 +24,7 @@ use Rattle.meaning.specs.HighestLevelFirst.{HighestLevelFirst}
 use Rattle.meaning.specs.NamedEvents.{NamedEvents}
 use Rattle.meaning.specs.Within.{MaskExact, MaskNoOther, ConflictByMask, GivesWayByMask}
 use Rattle.meaning.specs.Milliseconds.{WholeDelay, RestBelow, TicksFit}
+use Rattle.meaning.specs.NoIdleArrows.{IdleRefused, RefusedIdle, IdleLeaves, EveryArrowTaken}
 
 -- a tick from power-on or from a consistent set leaves a consistent set
 unfoldable pub KeepsConsistent : Type 0
@@ -128,3 +129,7 @@ pub record Promised : Type 0 where
   pub wholeDelay : WholeDelay
   pub restBelow : RestBelow
   pub ticksFit : TicksFit
+  pub idleRefused : IdleRefused
+  pub refusedIdle : RefusedIdle
+  pub idleLeaves : IdleLeaves
+  pub everyArrowTaken : EveryArrowTaken
