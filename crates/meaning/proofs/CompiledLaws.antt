@@ -1,56 +1,30 @@
 -- What compile leaves, by its one refusal: nothing in the table, or a table that is accepted for the sheet. Assumes nothing.
 use mathlib.Core.Path.{_≡_, refl, sym, _∙_, subst}
 use mathlib.Core.Logic.{_⊎_}
-use mathlib.Core.Bool.{Bool, true, false, not, cond}
+use mathlib.Core.Bool.{Bool, true, false, cond}
 use mathlib.Core.List.{List, [], _∷_}
-use Prim.Native.Nat.{ℕ, suc, _+_, _≤_, zero-le}
+use Prim.Native.Nat.{ℕ, _≤_, zero-le}
 use native.Mathlib.Nat.{le-trans, min-le-right}
 use native.Mathlib.Omega.{arith}
 use lib.Dec.{T, eqb, ltb}
 use lib.ListN.{length, take, drop}
 use lib.Seq.{take-append-seam}
 use borrow.Author.Tests.{eqb-true, eq-eqb, ltb-false}
-use Rattle.meaning.specs.Lists.{overwritten, firstOf, refusedIf, firstRefusal}
-use Rattle.meaning.specs.Check.{headOk, modesOk, pairsOk, endsOk, termsOk, distinctOk, sheetRefusal}
+use Rattle.meaning.specs.Lists.{overwritten, refusedIf, firstRefusal}
+use Rattle.meaning.specs.Check.{sheetRefusal}
 use Rattle.meaning.specs.Hierarchy.{consistent}
 use Rattle.meaning.specs.Tick.{tick}
 use Rattle.meaning.specs.Walk.{Walk, walk}
 use Rattle.meaning.specs.Idle.{leavesIdle}
 use Rattle.meaning.specs.Compile.{tableWords, compileRefusal, compile}
 use Rattle.meaning.specs.Acceptance.{Accepted, CompiledAccepted}
-use Rattle.meaning.proofs.RefusalLaws.{none-met, first-alone, unmet}
-use Rattle.meaning.proofs.SheetLaws.{Sound, sound}
+use Rattle.meaning.proofs.RefusalLaws.{none-met, other-met, first-alone, unmet}
+use Rattle.meaning.proofs.SheetLaws.{Sound, sound, sheet-refusal}
 use Rattle.meaning.proofs.WalkFuel.{walk-few}
 use Rattle.meaning.proofs.WalkLaws.{walk-closed}
 use Rattle.meaning.proofs.AcceptanceLaws.{accepted-i}
 use Rattle.meaning.proofs.TableFaithful.{table-faithful}
 use Rattle.meaning.proofs.TableSound.{table-ok}
-
--- ---- which refusal is given
-
--- the number of a test that applies is at most the last one's
-firstOf-le : (i : ℕ) (bs : List Bool) → firstOf (suc i) bs ≤ i + length bs
-unfolding firstOf
-firstOf-le i [] = zero-le
-firstOf-le i (b ∷ bs) = go b (firstOf-le (suc i) bs)
-  where
-    go : (c : Bool) → firstOf (suc (suc i)) bs ≤ suc i + length bs → cond c (suc i) (firstOf (suc (suc i)) bs) ≤ i + suc (length bs)
-    go true h = omega arith
-    go false h = omega arith
-
--- a sheet is refused 1 to 6, or not at all
-sheet-refusal : (s : List ℕ) → sheetRefusal s ≤ 6
-unfolding sheetRefusal
-sheet-refusal s = firstOf-le 0 (not (headOk s) ∷ not (modesOk s) ∷ not (pairsOk s) ∷ not (endsOk s) ∷ not (termsOk s) ∷ not (distinctOk s) ∷ [])
-
--- where another refusal than the first is given, the first is not met
-other-met : (e r : ℕ) (es : List ℕ) → (e ≡ r → ⊥) → firstRefusal (e ∷ es) ≡ r → (e ≡ 0) × (firstRefusal es ≡ r)
-unfolding firstRefusal
-other-met e r es n h = go (eqb e 0) refl h
-  where
-    go : (b : Bool) → eqb e 0 ≡ b → cond b (firstRefusal es) e ≡ r → (e ≡ 0) × (firstRefusal es ≡ r)
-    go true z k = (eqb-true e 0 z, k)
-    go false z k = absurd (n k)
 
 -- where nothing is refused, neither the sheet nor the walk is, no arrow is idle, and the table slice is long enough
 pub record CompileAccepts (s : List ℕ) (o : Walk) (m : ℕ) : Type 0 where

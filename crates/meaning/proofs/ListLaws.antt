@@ -3,7 +3,7 @@ use mathlib.Core.Path.{_≡_, refl, sym, ap, ap₂, _∙_, subst}
 use mathlib.Core.Logic.{_⊎_, inl, inr, ⊎-elim}
 use mathlib.Core.Bool.{Bool, true, false, _&&_, _||_, cond, and-false}
 use mathlib.Core.List.{List, [], _∷_, _++_, flatten, append-assoc, map}
-use Prim.Native.Nat.{ℕ, zero, suc, _+_, _*_, _≤_, _<_}
+use Prim.Native.Nat.{ℕ, zero, suc, _+_, _*_, _≤_, _<_, zero-le}
 use native.Mathlib.Nat.{le-refl, le-trans, le-of-eq, not-suc-le-zero, le-of-suc-le-suc, eq-or-lt-of-le, add-zero, zero-add, mul-zero, mul-suc}
 use native.Mathlib.Omega.{arith}
 use lib.Dec.{T, eqb, eqb→eq, eqb-refl, ltb, lt→ltb}
@@ -61,6 +61,16 @@ firstOf-off i (b ∷ bs) h = go b refl h (firstOf-off (suc i) bs)
     go : (c : Bool) → b ≡ c → cond c (suc i) (firstOf (suc (suc i)) bs) ≡ 0 → (firstOf (suc (suc i)) bs ≡ 0 → Off bs) → (b ≡ false) × Off bs
     go true e k ih = absurd (omega arith)
     go false e k ih = (e, ih k)
+
+-- the number of a test that applies is at most the last one's
+pub firstOf-le : (i : ℕ) (bs : List Bool) → firstOf (suc i) bs ≤ i + length bs
+unfolding firstOf
+firstOf-le i [] = zero-le
+firstOf-le i (b ∷ bs) = go b (firstOf-le (suc i) bs)
+  where
+    go : (c : Bool) → firstOf (suc (suc i)) bs ≤ suc i + length bs → cond c (suc i) (firstOf (suc (suc i)) bs) ≤ i + suc (length bs)
+    go true h = omega arith
+    go false h = omega arith
 
 -- where g holds of all of which f holds, the first test that applies may come earlier, and there is one
 pub firstOf-more : {A : Type 0} (f g : A → Bool) → ((x : A) → T (f x) → T (g x)) → (i : ℕ) (l : List A)

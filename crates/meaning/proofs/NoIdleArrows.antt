@@ -9,12 +9,8 @@ use Rattle.meaning.specs.Lists.{overwritten}
 use Rattle.meaning.specs.Walk.{walk}
 use Rattle.meaning.specs.Compile.{tableWords, compile}
 use Rattle.meaning.specs.NoIdleArrows.{TakenByCell, TakenInTable, IdleRefused, RefusedIdle, IdleLeaves, EveryArrowTaken}
-use Rattle.meaning.proofs.SheetLaws.{sound}
-use Rattle.meaning.proofs.Consistency.{keeps-consistent}
 use Rattle.meaning.proofs.WalkFuel.{walk-refusal}
-use Rattle.meaning.proofs.WalkLaws.{Fine, Closed, walk-closed}
-use Rattle.meaning.proofs.TableLaws.{b-in, taken-in}
-use Rattle.meaning.proofs.TableFaithful.{cells-in}
+use Rattle.meaning.proofs.TableLaws.{b-in, cells-in, taken-in}
 use Rattle.meaning.proofs.CompiledLaws.{CompileIdle, compile-accepts, compile-idle-e, compile-idle-i, compiled-words}
 use Rattle.meaning.proofs.IdleLaws.{leaves-idle-e, leaves-idle-i, none-idle-e}
 
@@ -44,13 +40,13 @@ idle-leaves s table work h = rw (h, refused-21 s table work h .passes)
 -- ---- every arrow of an accepted sheet stands in its table
 
 -- a cell of the listed sets that takes t has t in its taken words
-in-table : (s listed : List ℕ) → Fine s listed → Closed s listed → (t : ℕ) → TakenByCell s listed t → TakenInTable (tableWords s listed) t
-in-table s listed fine closed t h =
+in-table : (s listed : List ℕ) (t : ℕ) → TakenByCell s listed t → TakenInTable (tableWords s listed) t
+in-table s listed t h =
     record {
       block = h .block;
       cell = h .cell;
       block-small = omega (arith, b-in s listed, h .block-listed);
-      cell-small = rw (cells-in s listed fine closed (h .block) (h .block-listed)) (h .cell-small);
+      cell-small = rw (cells-in s listed (h .block) (h .block-listed)) (h .cell-small);
       taken = rw (taken-in s listed (h .block) (h .cell) (h .block-listed) (h .cell-small)) (h .taken);
     }
 
@@ -59,6 +55,5 @@ unfolding EveryArrowTaken
 every-arrow-taken s table work h t l =
     let o = walk s (length work) in
     let a = compile-accepts s o (length table) (unfold compile in h) in
-    let r = walk-closed s (keeps-consistent s (sound s (a .passes))) (length work) (a .walked) in
     subst (λ (w : List ℕ). TakenInTable w t) (sym (compiled-words s table work h))
-    (in-table s (o .listed) (r .0) (r .1) t (none-idle-e s (o .listed) (a .no-idle) t l))
+    (in-table s (o .listed) t (none-idle-e s (o .listed) (a .no-idle) t l))

@@ -35,6 +35,15 @@ none-met e es h = go (eqb e 0) refl h
     go true z k = (eqb-true e 0 z, k)
     go false z k = absurd (eqb-false e 0 z k)
 
+-- where another refusal than the first is given, the first is not met
+pub other-met : (e r : ℕ) (es : List ℕ) → (e ≡ r → ⊥) → firstRefusal (e ∷ es) ≡ r → (e ≡ 0) × (firstRefusal es ≡ r)
+unfolding firstRefusal
+other-met e r es n h = go (eqb e 0) refl h
+  where
+    go : (b : Bool) → eqb e 0 ≡ b → cond b (firstRefusal es) e ≡ r → (e ≡ 0) × (firstRefusal es ≡ r)
+    go true z k = (eqb-true e 0 z, k)
+    go false z k = absurd (n k)
+
 -- a condition that does not hold, where its refusal is not met
 pub unmet : (b : Bool) (e : ℕ) → (e ≡ 0 → ⊥) → refusedIf b e ≡ 0 → b ≡ false
 unfolding refusedIf

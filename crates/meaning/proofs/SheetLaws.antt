@@ -14,7 +14,12 @@ use Rattle.sets.proofs.Tests.{is-true, of-true, and-l, and-r, above-not}
 use Rattle.sets.proofs.Facts.{every-e}
 use Rattle.meaning.specs.Sheet.{nOf, kOf, tOf, kind, parent, first, isChild, source, target, endBefore, termCount, contains}
 use Rattle.meaning.specs.Check.{headOk, modeOk, modesOk, pairOk, pairsOk, endOk, endsOk, kindOk, termOk, termsOk, distinctOk, sheetRefusal}
-use Rattle.meaning.proofs.ListLaws.{allOf-e, firstOf-off}
+use Rattle.meaning.proofs.ListLaws.{allOf-e, firstOf-off, firstOf-le}
+
+-- a sheet is refused 1 to 6, or not at all
+pub sheet-refusal : (s : List ℕ) → sheetRefusal s ≤ 6
+unfolding sheetRefusal
+sheet-refusal s = firstOf-le 0 (not (headOk s) ∷ not (modesOk s) ∷ not (pairsOk s) ∷ not (endsOk s) ∷ not (termsOk s) ∷ not (distinctOk s) ∷ [])
 
 -- ---- the mode tree, by the mode rows: the root's parent is the root, every other mode's is lower
 

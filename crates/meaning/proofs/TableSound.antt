@@ -1,7 +1,7 @@
 -- The table of a walk that is not refused has a sound layout. Assumes nothing.
 use mathlib.Core.Path.{_≡_, refl, sym, ap, _∙_, subst}
 use mathlib.Core.Bool.{Bool, true, false, not, _&&_, _||_, cond}
-use mathlib.Core.List.{List, _∷_}
+use mathlib.Core.List.{List, [], _∷_}
 use Prim.Native.Nat.{ℕ, zero, suc, _+_, _*_, _≤_, _<_, zero-le}
 use native.Mathlib.Nat.{le-refl, le-trans, le-of-eq, suc-ne-zero}
 use native.Mathlib.Omega.{arith}
@@ -23,9 +23,9 @@ use Rattle.meaning.proofs.SheetLaws.{Sound, n-le, k-le, t-le, source-lt
 use Rattle.meaning.proofs.TickLaws.{running-e, running-none}
 use Rattle.meaning.proofs.ReadingLaws.{delay-pos}
 use Rattle.meaning.proofs.WalkLaws.{Fine, Closed}
-use Rattle.meaning.proofs.TableLaws.{tbl, maskOf, bs, start, wordsBefore, wordsBefore-next, wordsBefore-all, map-at, blocks, k-in, t-in, b-in, timer-word, table-length, offset-in, length-in, block-length, mask-in, timers-in}
+use Rattle.meaning.proofs.TableLaws.{tbl, maskOf, bs, start, wordsBefore, wordsBefore-next, wordsBefore-all, map-getD, blocks, k-in, t-in, b-in, timer-word, table-length, offset-in, length-in, block-length, mask-in, timers-in, cells-in}
 use Rattle.meaning.proofs.FaithfulLaws.{source-same, delay-same}
-use Rattle.meaning.proofs.TableFaithful.{consistent-pos, low-of, cells-in, next-is, next-listed, table-faithful}
+use Rattle.meaning.proofs.TableFaithful.{consistent-pos, low-of, next-is, next-listed, table-faithful}
 
 module _ (s : List ℕ) (sd : Sound s) (listed : List ℕ) (short : length listed ≤ 4095) (fine : Fine s listed) (closed : Closed s listed) where
   abbrev t : List ℕ
@@ -115,8 +115,8 @@ module _ (s : List ℕ) (sd : Sound s) (listed : List ℕ) (short : length liste
 
   length-ok : (b : ℕ) → b ≤ length listed → lengthIn t b ≡ 3 + 6 * cellsIn t b
   length-ok b l =
-      length-in s listed b (in-bs b l) ∙ ap (λ (x : List ℕ). length x) (map-at (blockWords s listed) (0 ∷ listed) b (omega arith))
-      ∙ block-length s listed (maskOf s listed b) ∙ ap (λ (i : ℕ). 3 + 6 * i) (sym (cells-in s listed fine closed b l))
+      length-in s listed b (in-bs b l) ∙ ap (λ (x : List ℕ). length x) (map-getD [] (blockWords s listed) (0 ∷ listed) b (omega arith))
+      ∙ block-length s listed (maskOf s listed b) ∙ ap (λ (i : ℕ). 3 + 6 * i) (sym (cells-in s listed b l))
 
   next-ok : (b : ℕ) → b ≤ length listed → (c : ℕ) → c < cellsIn t b → T (ltb 0 (cellWord t b c 0) && ltb (cellWord t b c 0) (bIn t))
   next-ok b l c k =

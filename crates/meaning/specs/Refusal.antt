@@ -12,11 +12,11 @@ numberOf Pair = 3
 numberOf Ends = 4
 numberOf Term = 5
 numberOf SharedEnds = 6
--- met in the walk: `timersMany` (Compile); in a tick: `ambiguous`, `restless` (Reaction)
+-- met in the walk: `timersMany` (Walk); in a tick: `ambiguous`, `restless` (Reaction)
 numberOf TooManyTimers = 7
 numberOf Ambiguous = 8
 numberOf Restless = 9
--- whoever lends memory: a table slice shorter than `tableWords`, `workListFull` (Compile), `outputShort` (Run),
+-- whoever lends memory: a table slice shorter than `tableWords` (Compile), `workListFull` (Walk), `outputShort` (Run),
 -- `resultsShort` (Milliseconds)
 numberOf ShortTable = 10
 numberOf FullWorkList = 11
