@@ -88,10 +88,14 @@ def regions(*sizes):
     return modes
 
 
-def idle(count, modes):
-    """As many arrows between these modes, the first of which is no source, so that others get higher numbers."""
-    ends = [(s, t) for s in modes[1:] for t in modes if s != t]
-    return [arrow(s, t, active(0)) for s, t in ends[:count]]
+def going_round(count, first, size):
+    """As many arrows in a region of `size` modes (an even number) from `first` on, so that others get higher numbers; each is
+    taken by some cell. Event 0 moves it from every second mode, its absence from the others; event 1 is the direction; event 2
+    leaps on by two."""
+    steps = [arrow(first + i, first + (i + way) % size, off(2), on(1) if way == 1 else off(1), off(0) if i % 2 else on(0))
+             for way in (1, size - 1) for i in range(size)]
+    leaps = [arrow(first + i, first + i + 2, on(2), on(0)) for i in range(0, size - 2, 2)]
+    return (steps + leaps)[:count]
 
 
 def changed(words, places):
@@ -379,11 +383,11 @@ TICKS = [
     ("a mode left in round 1 counts as active in round 2",
      sheet(1, regions(2, 2), GO_2, arrow(5, 6, taken(0), active(2))), [OFF, ON, ON], 0, 0),
     ("a mode left in round 1 is no source in round 2",
-     sheet(1, flat(3), arrow(1, 2, on(0)), arrow(1, 3, taken(0))), [OFF, ON, ON], 0, 0),
-    ("entered, as the round began", seen_early(entered(3)), [OFF, ON], 0, 0),
-    ("exited, as the round began", seen_early(exited(2)), [OFF, ON], 0, 0),
-    ("taken, as the round began", seen_early(taken(0)), [OFF, ON], 0, 0),
-    ("active, as the round began", seen_early(active(3)), [OFF, ON], 0, 0),
+     sheet(1, flat(3), arrow(1, 2, on(0)), arrow(1, 3, taken(0))), [OFF, ON, ON], 0, 21),
+    ("entered, as the round began", seen_early(entered(3)), [OFF, ON], 0, 21),
+    ("exited, as the round began", seen_early(exited(2)), [OFF, ON], 0, 21),
+    ("taken, as the round began", seen_early(taken(0)), [OFF, ON], 0, 21),
+    ("active, as the round began", seen_early(active(3)), [OFF, ON], 0, 21),
     ("entered, a round later", sheet(1, regions(2, 2), arrow(5, 6, entered(3)), arrow(2, 3, on(0))), [OFF, ON], 0, 0),
     ("exited, a round later", sheet(1, regions(2, 2), arrow(5, 6, exited(2)), arrow(2, 3, on(0))), [OFF, ON], 0, 0),
     ("taken, a round later", sheet(1, regions(2, 2), arrow(5, 6, taken(1)), arrow(2, 3, on(0))), [OFF, ON], 0, 0),
@@ -408,8 +412,8 @@ TICKS = [
     ("the root is entered at power-on only",
      sheet(1, THREE, arrow(1, 2, entered(0)), arrow(2, 3, on(0)), arrow(3, 1, off(0))), [OFF, ON, OFF, OFF], 0, 0),
     ("nothing exited or taken at power-on", sheet(1, regions(2, 2), arrow(2, 3, exited(2)), arrow(5, 6, taken(0))),
-     [OFF, OFF], 0, 0),
-    ("active at power-on", sheet(1, regions(2, 2), arrow(2, 3, active(5)), arrow(5, 6, active(6))), [OFF, OFF], 0, 0),
+     [OFF, OFF], 0, 21),
+    ("active at power-on", sheet(1, regions(2, 2), arrow(2, 3, active(5)), arrow(5, 6, active(6))), [OFF, OFF], 0, 21),
     ("a transition in the first tick", sheet(1, TWO, GO, BACK), [ON, ON, OFF], 0, 0),
     ("ambiguous at power-on", sheet(0, THREE, arrow(1, 2, entered(1)), arrow(1, 3, entered(1))), [0], 8, 8),
     ("restless at power-on", sheet(0, TWO, arrow(1, 2, entered(1)), arrow(2, 1, entered(1))), [0], 9, 9),
@@ -454,7 +458,7 @@ TICKS = [
     ("two transitions of one source", sheet(1, THREE, GO, arrow(1, 3, on(0))), [OFF, ON], 8, 8),
     ("two transitions of one source, on present and absent", sheet(1, THREE, GO, arrow(1, 3, off(0))), [ON, ON], 0, 0),
     ("two transitions of one source, the first triggered in the first round",
-     sheet(1, THREE, GO, arrow(1, 3, exited(1))), [OFF, ON], 0, 0),
+     sheet(1, THREE, GO, arrow(1, 3, exited(1))), [OFF, ON], 0, 21),
     ("transitions of two regions", sheet(1, regions(2, 2), GO_2, arrow(5, 6, on(0))), [OFF, ON], 0, 0),
     ("equal meeting modes, two regions left", sheet(1, BOTH, arrow(3, 8, on(0)), arrow(6, 8, on(0))), [OFF, ON], 8, 8),
     ("equal meeting modes, one source contains the other", sheet(1, INNER, *NESTED), [OFF, ON], 8, 8),
@@ -464,29 +468,29 @@ TICKS = [
      [OFF, ON, OFF], 8, 8),
     ("the first tick is done, the second is ambiguous", sheet(1, THREE, GO, arrow(1, 3, on(0))), [OFF, OFF, ON], 8, 8),
     # giving way
-    ("an inner transition gives way", sheet(1, INNER, *GIVING), [OFF, ON, ON], 0, 0),
-    ("an inner transition gives way, rows exchanged", sheet(1, INNER, *GIVING[::-1]), [OFF, ON, ON], 0, 0),
+    ("an inner transition gives way", sheet(1, INNER, *GIVING), [OFF, ON, ON], 0, 21),
+    ("an inner transition gives way, rows exchanged", sheet(1, INNER, *GIVING[::-1]), [OFF, ON, ON], 0, 21),
     ("an inner transition gives way to its parent's parent", sheet(1, DEEP, arrow(3, 4, on(0)), arrow(1, 6, on(0))),
-     [OFF, ON], 0, 0),
+     [OFF, ON], 0, 21),
     ("three in a row give way", sheet(1, DEEP, arrow(3, 4, on(0)), arrow(2, 5, on(0)), arrow(1, 6, on(0))),
-     [OFF, ON], 0, 0),
+     [OFF, ON], 0, 21),
     ("three in a row give way, rows exchanged",
-     sheet(1, DEEP, arrow(1, 6, on(0)), arrow(2, 5, on(0)), arrow(3, 4, on(0))), [OFF, ON], 0, 0),
+     sheet(1, DEEP, arrow(1, 6, on(0)), arrow(2, 5, on(0)), arrow(3, 4, on(0))), [OFF, ON], 0, 21),
     ("two of one inner source both give way",
-     sheet(1, DEEP, arrow(3, 4, on(0)), arrow(3, 5, on(0)), arrow(1, 6, on(0))), [OFF, ON], 0, 0),
+     sheet(1, DEEP, arrow(3, 4, on(0)), arrow(3, 5, on(0)), arrow(1, 6, on(0))), [OFF, ON], 0, 21),
     ("two of one source on two levels: the higher is taken",
-     sheet(1, DEEP, arrow(3, 4, on(0)), arrow(2, 5, on(0)), arrow(2, 6, on(0))), [OFF, ON], 0, 0),
+     sheet(1, DEEP, arrow(3, 4, on(0)), arrow(2, 5, on(0)), arrow(2, 6, on(0))), [OFF, ON], 0, 21),
     ("an outer one that is not triggered", sheet(2, INNER, arrow(2, 3, on(0)), arrow(1, 4, on(1))), [0, 1, 2], 0, 0),
     ("both regions' transitions give way to that of the parallel mode",
-     sheet(1, BOTH, arrow(3, 4, on(0)), arrow(6, 7, on(0)), arrow(1, 8, on(0))), [OFF, ON], 0, 0),
+     sheet(1, BOTH, arrow(3, 4, on(0)), arrow(6, 7, on(0)), arrow(1, 8, on(0))), [OFF, ON], 0, 21),
     ("the outer source gives way, as its meeting mode is the inner one",
-     sheet(1, DEEP, arrow(3, 6, on(0)), arrow(2, 5, on(0))), [OFF, ON], 0, 0),
-    ("a region gives way to one that leaves", sheet(1, BOTH, *SIDES), [OFF, ON], 0, 0),
-    ("a region gives way to one that leaves, rows exchanged", sheet(1, BOTH, *SIDES[::-1]), [OFF, ON], 0, 0),
+     sheet(1, DEEP, arrow(3, 6, on(0)), arrow(2, 5, on(0))), [OFF, ON], 0, 21),
+    ("a region gives way to one that leaves", sheet(1, BOTH, *SIDES), [OFF, ON], 0, 21),
+    ("a region gives way to one that leaves, rows exchanged", sheet(1, BOTH, *SIDES[::-1]), [OFF, ON], 0, 21),
     ("a region gives way, and is taken once it is entered again",
      sheet(1, BOTH, *SIDES, arrow(8, 7, taken(1))), [OFF, ON], 0, 0),
     ("two of equal meeting modes both give way to a third",
-     sheet(1, DEEP, arrow(3, 5, on(0)), arrow(2, 5, on(0)), arrow(1, 6, on(0))), [OFF, ON], 0, 0),
+     sheet(1, DEEP, arrow(3, 5, on(0)), arrow(2, 5, on(0)), arrow(1, 6, on(0))), [OFF, ON], 0, 21),
     ("three levels, no source within another", sheet(3, LEVELS, *LEAVING), [0, 7], 0, 0),
     ("three levels, the highest not triggered", sheet(3, LEVELS, *LEAVING), [0, 3, 4], 0, 0),
     ("a higher level beside: both are taken",
@@ -513,13 +517,13 @@ TICKS = [
     # what is exited and entered
     ("a target inside: its parents' first modes are not entered",
      sheet(1, [serial(0, 1), atomic(), serial(0, 3), atomic(2), serial(2, 5), atomic(4), atomic(4)],
-           arrow(1, 6, on(0)), arrow(6, 1, off(0)), arrow(3, 1, off(0))), [OFF, ON, OFF], 0, 0),
+           arrow(1, 6, on(0)), arrow(6, 1, off(0)), arrow(3, 1, off(0))), [OFF, ON, OFF], 0, 21),
     ("a target whose first modes are entered down to the last",
      sheet(1, [serial(0, 1), atomic(), serial(0, 4), atomic(2), serial(2, 6), atomic(4), atomic(4)],
            arrow(1, 2, on(0)), arrow(6, 1, off(0))), [OFF, ON, OFF], 0, 0),
     ("a target in a region: the other region is completed",
      sheet(1, [serial(0, 8)] + BOTH[1:], arrow(8, 7, on(0)), arrow(1, 8, off(0)), arrow(6, 7, after(2))),
-     [OFF, ON, ON, OFF], 0, 0),
+     [OFF, ON, ON, OFF], 0, 21),
     ("a parallel target within a parallel mode",
      sheet(1, [serial(0, 1), atomic(), parallel(), parallel(2), atomic(2), atomic(3), serial(3, 7)] + [atomic(6)] * 2,
            arrow(1, 2, on(0)), arrow(7, 8, on(0)), arrow(2, 1, off(0))), [OFF, ON, ON, OFF], 0, 0),
@@ -533,14 +537,17 @@ TICKS = [
     ("mode 31", sheet(1, flat(31), arrow(1, 31, on(0)), arrow(31, 2, active(31), off(0)), arrow(2, 30, after(2)),
                       arrow(30, 31, exited(2))), [OFF, ON, OFF, OFF, ON, OFF], 0, 0),
     ("a timer of mode 31", sheet(1, flat(31), arrow(1, 31, on(0)), arrow(31, 2, after(2))), [ON, OFF, ON, ON], 0, 0),
-    ("transitions 31 and 32", sheet(1, flat(10), *idle(31, range(3, 11)), GO, BACK), [OFF, ON, OFF], 0, 0),
-    ("transitions 62 and 63", sheet(1, flat(12), *idle(62, range(3, 13)), GO, BACK), [OFF, ON, OFF], 0, 0),
+    ("transitions 31 and 32",
+     sheet(3, regions(14, 2), *going_round(31, 2, 14), arrow(17, 18, on(0)), arrow(18, 17, off(0))), [OFF, ON, OFF], 0, 0),
+    ("transitions 62 and 63",
+     sheet(3, regions(26, 2), *going_round(62, 2, 26), arrow(29, 30, on(0)), arrow(30, 29, off(0))), [OFF, ON, OFF], 0, 0),
     ("transitions 62 and 63 as timers",
-     sheet(1, flat(12), *idle(62, range(3, 13)), arrow(1, 2, after(2)), arrow(2, 1, after(1))), [0] * 6, 0, 0),
+     sheet(3, regions(26, 2), *going_round(62, 2, 26), arrow(29, 30, after(2)), arrow(30, 29, after(1))), [0] * 6, 0, 0),
     ("transitions 31 and 32 as timers at once",
-     sheet(0, regions(2, 2, 7), *idle(31, range(8, 15)), arrow(2, 3, after(1)), arrow(5, 6, after(2))), [0] * 4, 0, 0),
-    ("transition 63 seen taken", sheet(1, flat(12), *idle(61, range(3, 13)), arrow(2, 3, taken(63)), BACK, GO),
-     [OFF, ON], 0, 0),
+     sheet(3, regions(14, 2, 2), *going_round(31, 2, 14), arrow(17, 18, after(1)), arrow(20, 21, after(2))), [0] * 4, 0, 0),
+    ("transition 63 seen taken",
+     sheet(3, regions(26, 3), *going_round(61, 2, 26), arrow(30, 31, taken(63)), arrow(31, 29, off(0)),
+           arrow(29, 30, on(0))), [OFF, ON], 0, 0),
 ]
 
 
@@ -557,6 +564,20 @@ UNSURE = sheet(1, THREE, GO, BACK, arrow(2, 3, off(0)))                 # in the
 UNSURE_AT_ONCE = sheet(0, THREE, arrow(1, 2, entered(1)), arrow(1, 3, entered(1)))
 UNEASY = sheet(1, THREE, GO, arrow(2, 3, off(0)), arrow(3, 2, off(0)))
 UNEASY_AT_ONCE = sheet(0, TWO, arrow(1, 2, entered(1)), arrow(2, 1, entered(1)))
+
+NOT_REACHED = sheet(1, THREE, arrow(2, 3, on(0)))
+REACHED = sheet(1, THREE, arrow(2, 3, on(0)), arrow(1, 2, off(0)))
+APART = sheet(0, regions(3, 2), arrow(2, 3, after(1)), arrow(6, 7, after(1)), arrow(2, 4, taken(1)))
+# a region of three modes besides, with arrows of higher numbers: from its first mode to its second, back, and from the third
+SIDE, SIDE_BACK, STUCK = (0, 1, on(0)), (1, 0, off(0)), (2, 0, on(0))
+
+
+def HIGH(count, *arrows):
+    """Two arrows with the numbers `count` and `count` + 1."""
+    size = 14 if count < 40 else 26
+    return sheet(3, regions(size, 3), *going_round(count, 2, size),
+                 *[arrow(size + 3 + s, size + 3 + t, term) for s, t, term in arrows])
+
 
 # a name, the refusal, the sheet, table words, work-list words
 COMPILES = [
@@ -581,6 +602,36 @@ COMPILES = [
     ("9 before 10", 9, UNEASY, 0, 8),
     ("9 before 11", 9, UNEASY_AT_ONCE, 0, 0),
     ("11 in an earlier cell than 9", 11, UNEASY, 100, 0),
+    # an arrow that no cell takes
+    ("idle: its source is never reached", 21, NOT_REACHED, 100, 8),
+    ("idle, and no table word: 21 before 10", 21, NOT_REACHED, 0, 8),
+    ("idle, and as many work-list words as sets", 21, NOT_REACHED, 100, 1),
+    ("11 before 21", 11, NOT_REACHED, 100, 0),
+    ("none is idle, and no table word", 10, REACHED, 0, 8),
+    ("idle: it always gives way", 21, sheet(1, INNER, *GIVING), 100, 8),
+    ("idle: its term never holds", 21, sheet(1, TWO, GO, arrow(2, 1, taken(1))), 100, 8),
+    ("idle: the first of three", 21, sheet(1, THREE, arrow(3, 1, on(0)), GO, BACK), 100, 8),
+    ("idle: the second of three", 21, sheet(1, THREE, GO, arrow(3, 1, on(0)), BACK), 100, 8),
+    ("idle: the last of three", 21, sheet(1, THREE, GO, BACK, arrow(3, 1, on(0))), 100, 8),
+    ("idle: two of three", 21, sheet(1, THREE, arrow(3, 1, on(0)), GO, arrow(3, 2, off(0))), 100, 8),
+    ("idle: transition 31", 21, HIGH(31, STUCK, SIDE), 6000, 64),
+    ("idle: transition 32", 21, HIGH(31, SIDE, STUCK), 6000, 64),
+    ("idle: transition 62", 21, HIGH(62, STUCK, SIDE), 6000, 64),
+    ("idle: transition 63", 21, HIGH(62, SIDE, STUCK), 6000, 64),
+    ("64 transitions, none idle", 0, HIGH(62, SIDE, SIDE_BACK), 6000, 64),
+    ("taken at power-on alone", 0, sheet(0, TWO, arrow(1, 2, after(0))), 100, 8),
+    ("taken in the first tick alone, on an event", 0, sheet(1, THREE, arrow(1, 2, entered(0), on(0)),
+                                                           arrow(1, 3, entered(0), off(0))), 100, 8),
+    ("taken in the last block alone", 0, sheet(1, THREE, GO, arrow(2, 3, off(0)), arrow(3, 2, on(0), exited(1), OR, on(0))),
+     200, 8),
+    ("taken in a first block alone", 0, sheet(1, THREE, GO, arrow(2, 3, off(0))), 200, 8),
+    ("taken in a round that is not the last", 0, sheet(1, THREE, GO, arrow(2, 3, taken(0))), 100, 8),
+    ("taken where one of two timers is due alone, which no clock brings", 0, APART, 300, 8),
+    ("7 before 21", 7, sheet(0, regions(*[2] * 7, 2), *[arrow(3 * r + 2, 3 * r + 3, after(1)) for r in range(7)],
+                             arrow(24, 23, entered(23))), 0, 8),
+    ("8 before 21", 8, sheet(1, [*THREE, atomic()], GO, BACK, arrow(2, 3, off(0)), arrow(4, 1, on(0))), 0, 8),
+    ("9 before 21", 9, sheet(1, [*THREE, atomic()], GO, arrow(2, 3, off(0)), arrow(3, 2, off(0)), arrow(4, 1, on(0))), 0, 8),
+    ("no arrow", 0, sheet(0, TWO), 100, 8),
 ]
 
 
@@ -716,7 +767,7 @@ def tick_cases():
     for name, words, inputs, of_run, of_compile in TICKS:
         yield check_case(name, 0, words)
         yield run_case(2, name, of_run, FRESH, inputs, 5 * len(inputs))
-        yield compile_case(name, of_compile, 1500, 32)
+        yield compile_case(name, of_compile, 12000, 64)
         if not of_compile:
             yield run_case(4, name, of_run, FRESH, inputs, 5 * len(inputs))
 

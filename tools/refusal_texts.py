@@ -58,6 +58,7 @@ def full_table(*arrows):
 
 
 ARROW = [3, 5, 1, 2, 2, 0]  # a short cut in the ring of 9: no set more
+IDLE = [3, 7, 6, 27]        # one that waits for itself: it is never taken
 
 
 def rings_left():
@@ -67,15 +68,15 @@ def rings_left():
 
 def longest(ticks):
     """A request of 2,403 sheet words: 32 modes, and 64 transitions with 16 terms each."""
-    def record(m, away, *terms):
-        return [1 + m, 1 + (m + away) % 31, *(terms * 16)[:32]]
+    def record(source, target, *terms):
+        return [source, target, *(terms * 16)[:32]]
 
-    # a step on event 0 or its absence; otherwise two or three, by event 1
-    one = [record(m, 1, 1 + m % 2, 0) for m in range(31)]
-    two = [record(m, 2, 2 - m % 2, 0, 1 + m // 2 % 2, 1) for m in range(31)]
-    three = [record(m, 3, 2 - m % 2, 0, 2 - m // 2 % 2, 1) for m in (0, 4)]
+    # a ring of 30: a step on event 0 from every second mode, on its absence from the others, on or back by event 1
+    steps = [record(1 + m, 1 + (m + way) % 30, 1 + m % 2, 0, by, 1, 2, 2) for way, by in ((1, 1), (29, 2)) for m in range(30)]
+    leaps = [record(m, m + 2, 1, 0, 1, 2) for m in (3, 5)]
+    beside = [record(1, 31, 1, 0, 1, 2), record(31, 1, 2, 2)]
     modes = [(1, 0, 1)] + [(0, 0, 0)] * 31
-    return text(sheet(modes, 2, one + two + three), *(t % 4 for t in range(ticks)))
+    return text(sheet(modes, 3, steps + leaps + beside), *(5 if t % 7 == 0 else 3 - t % 2 for t in range(ticks)))
 
 
 def timers(count):
@@ -124,6 +125,8 @@ TEXTS = [
     ("10: one of 8,193", text(full_table(ARROW), 1, 3, 7)),
     ("10: 1,024 sets are listed, and the table is too long", text(rings([4] * 5), 0)),
     ("11: 1,025 sets", text(rings_left(), 0)),
+    ("21: an arrow that no cell takes", text(changed({22: 6, 23: 1}), 0)),
+    ("21 before 10", text(full_table(ARROW, IDLE), 0)),
     ("13 at tick 2, after the lines of two ticks", E + " 4 0 1 2 0"),
     ("13 at tick 0, after the header", E + " 1 2"),
     ("2,403 sheet words and 1,024 ticks: 3,429 numbers, served", longest(1024)),
