@@ -100,6 +100,7 @@ TABLES = [
     ("a timer word of all ones", 15, table(0, [TOP], START, STAY)),
     ("the last timer word of source 32", 15, table(0, [TICK, timer(32, 1)], START, STAY)),
     ("the last timer word of delay 0", 15, table(0, [TICK, timer(1, 0)], START, STAY)),
+    ("the third timer word of source 32, with two blocks", 15, table(0, [TICK, TICK, timer(32, 1)], START, STAY)),
     ("a timer word of source 32 in the example", 15, example({5: timer(32, 2)})),
     # offsets near 2^32, and pairs that overlap, stand in another order or leave a gap
     ("offset of block 0 is 2^32 - 1", 15, example({6: TOP})),

@@ -103,8 +103,8 @@ module _ (s t : List ℕ) (cs : List Call) (rs : List Run) where
     pub consistently : (i : ℕ) → i < length (allDone s cs) → T (consistent s (sheetState s cs (suc i) .at))
     pub runs : (j : ℕ) → j < length cs → RunRight j (getD cs j (record { inputs = []; out = [] }))
 
--- "Its sheet is any that a compile did not refuse"; "its table is the words left there, as many as the length returned";
--- "Power-on is the fresh state"; "For every such list".
+-- "Its sheet is any that a compile did not refuse", so one without an idle arrow (document 02, Ask 8); "its table is the words left
+-- there, as many as the length returned"; "Power-on is the fresh state"; "For every such list".
 unfoldable pub WholeList : Type 0
 WholeList =
     (s table work : List ℕ) → compile s table work .refusal ≡ 0

@@ -4,7 +4,7 @@
 -- theorem. Assumes nothing.
 use mathlib.Core.Path.{_≡_}
 use mathlib.Core.List.{List, [], _∷_, map}
-use Prim.Native.Nat.{ℕ}
+use Prim.Native.Nat.{ℕ, _<_}
 use lib.ListN.{take}
 use contract.Lifetimes.{Lfts}
 use denote.Ref.{now}
@@ -12,8 +12,10 @@ use denote.Triple.Clauses.{AtExit}
 use borrow.Fn.Kinds.{Dens, endedOf}
 use Rattle.meaning.specs.Refusal.{numberOf}
 use Rattle.meaning.specs.declared.refusal.Refusal.{Refusal}
+use Rattle.meaning.specs.Sheet.{tOf}
 use Rattle.meaning.specs.Run.{State, powerOn, Run}
 use Rattle.meaning.specs.WholeList.{Call, Served}
+use Rattle.meaning.specs.NoIdleArrows.{TakenInTable}
 use Rattle.run.specs.States.{stateOf}
 use Rattle.compiler.specs.declared.Compiled.{Compiled}
 use Rattle.compiler.proofs.compile.Kinds as compileKinds
@@ -87,8 +89,8 @@ unfoldable pub OneAfterOther : List ℕ → State → List RunCall → Type 0
 OneAfterOther t q [] = Unit {0}
 OneAfterOther t q (c ∷ cs) = (tableGot c ≡ t) × (stateGot c ≡ q) × OneAfterOther t (stateOf (c .returned .state)) cs
 
--- any compile that refused nothing, and any list of calls of the table run on its table, from the fresh state: every conclusion of
--- demand 3
+-- any compile that refused nothing, so of a sheet without an idle arrow, and any list of calls of the table run on its table, from the
+-- fresh state: every conclusion of demand 3
 unfoldable pub Demand3 : Type 0
 Demand3 =
     (c : CompileCall) → numberOf (c .returned .refusal) ≡ 0
@@ -109,3 +111,9 @@ CompileIsAccepted =
     (c : CompileCall) → numberOf (c .returned .refusal) ≡ 0
     → (a : AcceptCall) → sheetChecked a ≡ sheetWords c → tableChecked a ≡ tableWords c
     → numberOf (a .returned) ≡ 0
+
+-- any compile that refused nothing: each transition of its sheet stands in the taken words of some cell of the table that it left
+unfoldable pub CompileTakesEvery : Type 0
+CompileTakesEvery =
+    (c : CompileCall) → numberOf (c .returned .refusal) ≡ 0
+    → (t : ℕ) → t < tOf (sheetWords c) → TakenInTable (tableWords c) t
