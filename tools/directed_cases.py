@@ -89,11 +89,11 @@ def regions(*sizes):
 
 
 def going_round(count, first, size):
-    """As many arrows in a region of `size` modes (an even number) from `first` on, so that others get higher numbers; each is
-    taken by some cell. Event 0 moves it from every second mode, its absence from the others; event 1 is the direction; event 2
-    leaps on by two."""
-    steps = [arrow(first + i, first + (i + way) % size, off(2), on(1) if way == 1 else off(1), off(0) if i % 2 else on(0))
-             for way in (1, size - 1) for i in range(size)]
+    """As many arrows in a region of `size` modes (an even number) from `first` on, so that others get higher numbers;
+    each is taken by some cell. Event 0 moves it from every second mode, its absence from the others; event 1 is the
+    direction; event 2 leaps on by two."""
+    steps = [arrow(first + i, first + (i + way) % size, off(2), by, off(0) if i % 2 else on(0))
+             for way, by in ((1, on(1)), (size - 1, off(1))) for i in range(size)]
     leaps = [arrow(first + i, first + i + 2, on(2), on(0)) for i in range(0, size - 2, 2)]
     return (steps + leaps)[:count]
 
@@ -538,13 +538,17 @@ TICKS = [
                       arrow(30, 31, exited(2))), [OFF, ON, OFF, OFF, ON, OFF], 0, 0),
     ("a timer of mode 31", sheet(1, flat(31), arrow(1, 31, on(0)), arrow(31, 2, after(2))), [ON, OFF, ON, ON], 0, 0),
     ("transitions 31 and 32",
-     sheet(3, regions(14, 2), *going_round(31, 2, 14), arrow(17, 18, on(0)), arrow(18, 17, off(0))), [OFF, ON, OFF], 0, 0),
+     sheet(3, regions(14, 2), *going_round(31, 2, 14), arrow(17, 18, on(0)), arrow(18, 17, off(0))),
+     [OFF, ON, OFF], 0, 0),
     ("transitions 62 and 63",
-     sheet(3, regions(26, 2), *going_round(62, 2, 26), arrow(29, 30, on(0)), arrow(30, 29, off(0))), [OFF, ON, OFF], 0, 0),
+     sheet(3, regions(26, 2), *going_round(62, 2, 26), arrow(29, 30, on(0)), arrow(30, 29, off(0))),
+     [OFF, ON, OFF], 0, 0),
     ("transitions 62 and 63 as timers",
-     sheet(3, regions(26, 2), *going_round(62, 2, 26), arrow(29, 30, after(2)), arrow(30, 29, after(1))), [0] * 6, 0, 0),
+     sheet(3, regions(26, 2), *going_round(62, 2, 26), arrow(29, 30, after(2)), arrow(30, 29, after(1))),
+     [0] * 6, 0, 0),
     ("transitions 31 and 32 as timers at once",
-     sheet(3, regions(14, 2, 2), *going_round(31, 2, 14), arrow(17, 18, after(1)), arrow(20, 21, after(2))), [0] * 4, 0, 0),
+     sheet(3, regions(14, 2, 2), *going_round(31, 2, 14), arrow(17, 18, after(1)), arrow(20, 21, after(2))),
+     [0] * 4, 0, 0),
     ("transition 63 seen taken",
      sheet(3, regions(26, 3), *going_round(61, 2, 26), arrow(30, 31, taken(63)), arrow(31, 29, off(0)),
            arrow(29, 30, on(0))), [OFF, ON], 0, 0),
@@ -568,15 +572,23 @@ UNEASY_AT_ONCE = sheet(0, TWO, arrow(1, 2, entered(1)), arrow(2, 1, entered(1)))
 NOT_REACHED = sheet(1, THREE, arrow(2, 3, on(0)))
 REACHED = sheet(1, THREE, arrow(2, 3, on(0)), arrow(1, 2, off(0)))
 APART = sheet(0, regions(3, 2), arrow(2, 3, after(1)), arrow(6, 7, after(1)), arrow(2, 4, taken(1)))
-# a region of three modes besides, with arrows of higher numbers: from its first mode to its second, back, and from the third
+# in a region of three modes: from the first to the second, back, and from the third, which is never entered
 SIDE, SIDE_BACK, STUCK = (0, 1, on(0)), (1, 0, off(0)), (2, 0, on(0))
 
 
-def HIGH(count, *arrows):
+def high(count, *arrows):
     """Two arrows with the numbers `count` and `count` + 1."""
     size = 14 if count < 40 else 26
     return sheet(3, regions(size, 3), *going_round(count, 2, size),
                  *[arrow(size + 3 + s, size + 3 + t, term) for s, t, term in arrows])
+
+
+def many(*arrows):
+    """384 sets: a region whose first mode is left at power-on, and rings of 4, 4, 4 and 6, each moved by an event."""
+    rings = [(5, 4), (10, 4), (15, 4), (20, 6)]
+    return sheet(4, regions(2, 4, 4, 4, 6), arrow(2, 3, after(0)),
+                 *[arrow(first + i, first + (i + 1) % size, off(event) if i % 2 else on(event))
+                   for event, (first, size) in enumerate(rings) for i in range(size)], *arrows)
 
 
 # a name, the refusal, the sheet, table words, work-list words
@@ -614,23 +626,25 @@ COMPILES = [
     ("idle: the second of three", 21, sheet(1, THREE, GO, arrow(3, 1, on(0)), BACK), 100, 8),
     ("idle: the last of three", 21, sheet(1, THREE, GO, BACK, arrow(3, 1, on(0))), 100, 8),
     ("idle: two of three", 21, sheet(1, THREE, arrow(3, 1, on(0)), GO, arrow(3, 2, off(0))), 100, 8),
-    ("idle: transition 31", 21, HIGH(31, STUCK, SIDE), 6000, 64),
-    ("idle: transition 32", 21, HIGH(31, SIDE, STUCK), 6000, 64),
-    ("idle: transition 62", 21, HIGH(62, STUCK, SIDE), 6000, 64),
-    ("idle: transition 63", 21, HIGH(62, SIDE, STUCK), 6000, 64),
-    ("64 transitions, none idle", 0, HIGH(62, SIDE, SIDE_BACK), 6000, 64),
+    ("idle: transition 31", 21, high(31, STUCK, SIDE), 6000, 64),
+    ("idle: transition 32", 21, high(31, SIDE, STUCK), 6000, 64),
+    ("idle: transition 62", 21, high(62, STUCK, SIDE), 6000, 64),
+    ("idle: transition 63", 21, high(62, SIDE, STUCK), 6000, 64),
+    ("64 transitions, none idle", 0, high(62, SIDE, SIDE_BACK), 6000, 64),
     ("taken at power-on alone", 0, sheet(0, TWO, arrow(1, 2, after(0))), 100, 8),
     ("taken in the first tick alone, on an event", 0, sheet(1, THREE, arrow(1, 2, entered(0), on(0)),
                                                            arrow(1, 3, entered(0), off(0))), 100, 8),
-    ("taken in the last block alone", 0, sheet(1, THREE, GO, arrow(2, 3, off(0)), arrow(3, 2, on(0), exited(1), OR, on(0))),
-     200, 8),
-    ("taken in a first block alone", 0, sheet(1, THREE, GO, arrow(2, 3, off(0))), 200, 8),
+    ("taken in the last block alone", 0, sheet(1, THREE, GO, arrow(2, 3, off(0)), arrow(3, 2, on(0))), 200, 8),
+    ("taken in the first blocks alone", 0, sheet(1, THREE, GO, arrow(2, 3, off(0))), 200, 8),
     ("taken in a round that is not the last", 0, sheet(1, THREE, GO, arrow(2, 3, taken(0))), 100, 8),
     ("taken where one of two timers is due alone, which no clock brings", 0, APART, 300, 8),
+    ("384 sets, an arrow taken at power-on alone, no table word", 10, many(), 0, 384),
+    ("384 sets, an arrow that waits for itself", 21, many(arrow(3, 2, taken(19))), 0, 384),
     ("7 before 21", 7, sheet(0, regions(*[2] * 7, 2), *[arrow(3 * r + 2, 3 * r + 3, after(1)) for r in range(7)],
                              arrow(24, 23, entered(23))), 0, 8),
     ("8 before 21", 8, sheet(1, [*THREE, atomic()], GO, BACK, arrow(2, 3, off(0)), arrow(4, 1, on(0))), 0, 8),
-    ("9 before 21", 9, sheet(1, [*THREE, atomic()], GO, arrow(2, 3, off(0)), arrow(3, 2, off(0)), arrow(4, 1, on(0))), 0, 8),
+    ("9 before 21", 9,
+     sheet(1, [*THREE, atomic()], GO, arrow(2, 3, off(0)), arrow(3, 2, off(0)), arrow(4, 1, on(0))), 0, 8),
     ("no arrow", 0, sheet(0, TWO), 100, 8),
 ]
 

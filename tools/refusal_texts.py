@@ -72,7 +72,8 @@ def longest(ticks):
         return [source, target, *(terms * 16)[:32]]
 
     # a ring of 30: a step on event 0 from every second mode, on its absence from the others, on or back by event 1
-    steps = [record(1 + m, 1 + (m + way) % 30, 1 + m % 2, 0, by, 1, 2, 2) for way, by in ((1, 1), (29, 2)) for m in range(30)]
+    steps = [record(1 + m, 1 + (m + way) % 30, 1 + m % 2, 0, by, 1, 2, 2)
+             for way, by in ((1, 1), (29, 2)) for m in range(30)]
     leaps = [record(m, m + 2, 1, 0, 1, 2) for m in (3, 5)]
     beside = [record(1, 31, 1, 0, 1, 2), record(31, 1, 2, 2)]
     modes = [(1, 0, 1)] + [(0, 0, 0)] * 31
