@@ -10,6 +10,7 @@ use Rattle.rows.specs.Over.{over}
 use Rattle.rows.proofs.OverLaws.{over-def, length-over}
 use Rattle.io.specs.Counts.{Counts}
 use Rattle.meaning.specs.Lists.{overwritten}
+use Rattle.meaning.proofs.ListLaws.{drop-later}
 use Rattle.decimals.specs.Printing.{decimalOf, lineOf, Put, linePut}
 
 -- ---- the first i of the bytes ds at the place `at`
@@ -85,11 +86,6 @@ drop-put l ds at e c h k =
     let long : length p ≡ e = omega (arith, length-append (take at l) ds, length-take-le at l (omega arith)) in
     let rest : drop e (over l at ds) ≡ drop e l = rw (over-def l at ds, h) (drop-at p (drop (at + length ds) l) (at + length ds) (long ∙ h)) in
     rw (drop-set-lt (e + 1) (over l at ds) e c (omega arith), ← drop-drop 1 e (over l at ds), rest) (drop-drop 1 e l)
-
-drop-later : (l m : List ℕ) (at n : ℕ) → at ≤ n → drop at l ≡ drop at m → drop n l ≡ drop n m
-drop-later l m at n h e =
-    let same : at + (n - at) ≡ n = omega arith in
-    rw (← same, ← drop-drop (n - at) at l, e) (drop-drop (n - at) at m)
 
 pub row-rest : (l m : List ℕ) (at : ℕ) (ds : List ℕ) (e c : ℕ) → e ≡ at + length ds → e < length l → drop at l ≡ drop at m
     → drop (e + 1) (set (over l at ds) e c) ≡ drop (e + 1) m

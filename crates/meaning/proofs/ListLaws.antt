@@ -3,12 +3,12 @@ use mathlib.Core.Path.{_≡_, refl, sym, ap, ap₂, _∙_, subst}
 use mathlib.Core.Logic.{_⊎_, inl, inr, ⊎-elim}
 use mathlib.Core.Bool.{Bool, true, false, _&&_, _||_, cond, and-false}
 use mathlib.Core.List.{List, [], _∷_, _++_, flatten, append-assoc, map}
-use Prim.Native.Nat.{ℕ, zero, suc, _+_, _*_, _≤_, _<_, zero-le}
+use Prim.Native.Nat.{ℕ, zero, suc, _+_, _-_, _*_, _≤_, _<_, zero-le}
 use native.Mathlib.Nat.{le-refl, le-trans, le-of-eq, not-suc-le-zero, le-of-suc-le-suc, eq-or-lt-of-le, add-zero, zero-add, mul-zero, mul-suc}
 use native.Mathlib.Omega.{arith}
 use lib.Dec.{T, eqb, eqb→eq, eqb-refl, ltb, lt→ltb}
 use lib.ListN.{length, getD, length-append, take, drop}
-use lib.Seq.{ext-getD, take-at, drop-at}
+use lib.Seq.{ext-getD, take-at, drop-at, drop-drop}
 use Rattle.sets.specs.Sets.{has, unionOf}
 use Rattle.sets.proofs.Unions.{unionOf-e, unionOf-i}
 use Rattle.sets.proofs.Tests.{and-l, and-r, and-i, or-e, or-l, or-r, below-or-not}
@@ -168,6 +168,10 @@ rowFrom-getD {A} l a =
 -- the end of a loop that fills an array word by word with f 0, f 1, ..
 pub row-done : (f : ℕ → ℕ) (r : List ℕ) (w : ℕ) → length r ≡ w → ((u : ℕ) → u < w → getD r u 0 ≡ f u) → r ≡ rowFrom 0 w f
 row-done f r w n h = rw n at (rowFrom-getD r 0) ∙ rowFrom-ext (λ u. getD r u 0) f 0 w (λ u a b. h u (omega arith))
+
+-- what two lists share from g on they share from any later place on
+pub drop-later : (l l′ : List ℕ) (g h : ℕ) → g ≤ h → drop g l ≡ drop g l′ → drop h l ≡ drop h l′
+drop-later l l′ g h k e = let n : g + (h - g) ≡ h = omega arith in rw (← n, ← drop-drop (h - g) g l, e) (drop-drop (h - g) g l′)
 
 -- the union of a row of sets
 pub row-union-e : (f : ℕ → ℕ) (n i : ℕ) → T (has (unionOf (rowFrom 0 n f)) i) → (j : ℕ) × (j < n) × T (has (f j) i)

@@ -15,7 +15,7 @@ use Rattle.meaning.specs.SheetRun.{stateOk, tickFrom, stateAfter, sheetS
 use Rattle.meaning.specs.Table.{wordIn, kIn, tIn, bIn, sourceIn, delayIn, offsetIn, lengthIn, endBeforeIn, maskIn, timersIn, cellsIn, cellWord, timerOk, blockOk, tableOk}
 use Rattle.meaning.specs.TableRun.{dueNumber, tableStateOk, cellOf, stateAfterCell, isStale, tableStep, tableRun}
 use Rattle.meaning.specs.Walk.{dueSet, workListFull, timersMany, cellCount, cellTick, listing, cellsFrom, walkFrom, walk}
-use Rattle.meaning.specs.Idle.{takenInBlock, takenIn, idle, leavesIdle}
+use Rattle.meaning.specs.Idle.{takenByBlock, takenByBlocks, idle, leavesIdle}
 use Rattle.meaning.specs.Compile.{pairsFrom, timerWord, cellWords, blockWords, tableWords, compileRefusal, compile}
 use Rattle.meaning.specs.Milliseconds.{ticksAndRests, resultsShort, ticksOutOfRange, milliseconds}
 use Rattle.meaning.specs.Faithful.{cellFaithful, headFaithful, blockFaithful, wordsFaithful, faithful}
@@ -75,7 +75,7 @@ unfolding dueNumber tableStateOk cellOf stateAfterCell isStale tableStep tableRu
 in-table-run = tt
 
 unfoldable in-walk : Unit {0}
-unfolding dueSet workListFull timersMany cellCount cellTick listing cellsFrom walkFrom walk takenInBlock takenIn idle leavesIdle
+unfolding dueSet workListFull timersMany cellCount cellTick listing cellsFrom walkFrom walk takenByBlock takenByBlocks idle leavesIdle
 in-walk = tt
 
 unfoldable in-compile : Unit {0}
