@@ -15,7 +15,7 @@ use Rattle.meaning.proofs.RunLaws.{done-le, run-all}
 pub table-run-done : (w : List ℕ) (q : State) (inputs out : List ℕ) → tableRun w q inputs out .done ≤ length inputs
 unfolding tableRun ran stops
 table-run-done w q inputs out =
-    run-all (kIn w) (tableStep w) (refusedIf (not (tableOk w)) 15) (tableStateOk w q) q inputs out (λ r. r .done ≤ length inputs)
+    run-all (kIn w) (tableStep w) (refusedIf (not (tableOk w)) 15) (tableStateOk w q) _ q inputs out (λ r. r .done ≤ length inputs)
     (λ _. zero-le) (done-le (kIn w) (tableStep w) inputs q)
 
 -- a block has at most 4,096 cells

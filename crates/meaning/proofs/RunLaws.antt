@@ -11,7 +11,7 @@ use lib.ListN.{length, length-append}
 use borrow.Author.Tests.{eqb-true, eqb-false, eq-eqb, ne-eqb}
 use Rattle.sets.proofs.Tests.{is-true, of-true}
 use Rattle.meaning.specs.Lists.{refusedIf, firstRefusal}
-use Rattle.meaning.specs.Run.{State, Step, Ticks, stops, tickThen, outputShort, inputForeign, Run, ran, tickRefusal, ticks, run}
+use Rattle.meaning.specs.Run.{State, Step, Ticks, stops, tickThen, inputForeign, Run, ran, tickRefusal, ticks, run}
 use Rattle.meaning.proofs.RefusalLaws.{first-met, first-passed, first-alone, none-met, unmet}
 
 -- the ticks a, none of them refused, then the ticks b
@@ -178,44 +178,44 @@ module _ (k : ℕ) (step : State → ℕ → Step) where
 
   -- ---- the whole run
 
-  module _ (refusal : ℕ) (ok : Bool) (q : State) (inputs out : List ℕ) where
+  module _ (refusal : ℕ) (ok short : Bool) (q : State) (inputs out : List ℕ) where
     -- what is refused before any tick
     abbrev pub refusedFirst : ℕ
-    refusedFirst = firstRefusal (refusal ∷ refusedIf (not ok) 14 ∷ refusedIf (outputShort inputs out) 12 ∷ [])
+    refusedFirst = firstRefusal (refusal ∷ refusedIf (not ok) 14 ∷ refusedIf short 12 ∷ [])
 
-    pub run-stops : (e : ℕ) → refusedFirst ≡ e → (e ≡ 0 → ⊥) → run k step refusal ok q inputs out ≡ ran out (stops e q)
+    pub run-stops : (e : ℕ) → refusedFirst ≡ e → (e ≡ 0 → ⊥) → run k step refusal ok short q inputs out ≡ ran out (stops e q)
     unfolding run
     run-stops e h n = rw (h, ne-eqb e 0 n) refl
 
-    pub run-refused : (refusal ≡ 0 → ⊥) → run k step refusal ok q inputs out ≡ ran out (stops refusal q)
+    pub run-refused : (refusal ≡ 0 → ⊥) → run k step refusal ok short q inputs out ≡ ran out (stops refusal q)
     run-refused n = run-stops refusal (first-met refusal _ n) n
 
-    pub run-state : refusal ≡ 0 → ok ≡ false → run k step refusal ok q inputs out ≡ ran out (stops 14 q)
+    pub run-state : refusal ≡ 0 → ok ≡ false → run k step refusal ok short q inputs out ≡ ran out (stops 14 q)
     run-state z e =
         run-stops 14 (first-passed refusal _ z ∙ (unfold refusedIf in (rw e (first-met 14 _ (λ h. omega arith))))) (λ h. omega arith)
 
-    pub run-short : refusal ≡ 0 → ok ≡ true → outputShort inputs out ≡ true → run k step refusal ok q inputs out ≡ ran out (stops 12 q)
+    pub run-short : refusal ≡ 0 → ok ≡ true → short ≡ true → run k step refusal ok short q inputs out ≡ ran out (stops 12 q)
     run-short z e h =
         run-stops 12
         (first-passed refusal _ z ∙ (unfold refusedIf in (rw (e, h) (first-passed 0 (12 ∷ []) refl ∙ first-alone 12)))) (λ n. omega arith)
 
     -- their refusals
-    pub refusal-state : refusal ≡ 0 → ok ≡ false → run k step refusal ok q inputs out .refusal ≡ 14
+    pub refusal-state : refusal ≡ 0 → ok ≡ false → run k step refusal ok short q inputs out .refusal ≡ 14
     unfolding ran stops
     refusal-state z e = ap (λ (r : Run). r .refusal) (run-state z e)
 
-    pub refusal-short : refusal ≡ 0 → ok ≡ true → outputShort inputs out ≡ true → run k step refusal ok q inputs out .refusal ≡ 12
+    pub refusal-short : refusal ≡ 0 → ok ≡ true → short ≡ true → run k step refusal ok short q inputs out .refusal ≡ 12
     unfolding ran stops
     refusal-short z e h = ap (λ (r : Run). r .refusal) (run-short z e h)
 
-    pub run-goes : refusal ≡ 0 → ok ≡ true → outputShort inputs out ≡ false → run k step refusal ok q inputs out ≡ ran out (ticks k step inputs q)
+    pub run-goes : refusal ≡ 0 → ok ≡ true → short ≡ false → run k step refusal ok short q inputs out ≡ ran out (ticks k step inputs q)
     unfolding run
     run-goes z e h =
         let none : refusedFirst ≡ 0 = first-passed refusal _ z ∙ (unfold refusedIf in (rw (e, h) (first-passed 0 (0 ∷ []) refl ∙ first-alone 0))) in
         rw (eq-eqb refusedFirst 0 none) refl
 
     -- what holds where the run stops, and of its ticks, holds of it
-    pub run-all : (P : Run → Type 0) → ((e : ℕ) → P (ran out (stops e q))) → P (ran out (ticks k step inputs q)) → P (run k step refusal ok q inputs out)
+    pub run-all : (P : Run → Type 0) → ((e : ℕ) → P (ran out (stops e q))) → P (ran out (ticks k step inputs q)) → P (run k step refusal ok short q inputs out)
     unfolding run
     run-all P bad good = go (eqb refusedFirst 0)
       where
@@ -226,23 +226,23 @@ module _ (k : ℕ) (step : State → ℕ → Step) where
   -- ---- 14 and what a run returns
 
   module _ (refusal : ℕ) (none : refusal ≡ 0) (admits : State → Bool) where
-    abbrev runOn : State → List ℕ → List ℕ → Run
-    runOn q inputs out = run k step refusal (admits q) q inputs out
+    abbrev runOn : State → Bool → List ℕ → List ℕ → Run
+    runOn q short inputs out = run k step refusal (admits q) short q inputs out
 
     -- where done ticks leave states that are admitted, a run that is not refused 14 returns one
     pub run-leaves : ((p : State) (i : ℕ) → tickRefusal k step p i ≡ 0 → T (admits p) → T (admits (step p i .state)))
-        → (q : State) (inputs out : List ℕ) → (runOn q inputs out .refusal ≡ 14 → ⊥) → T (admits (runOn q inputs out .state))
-    run-leaves keeps q inputs out n = go (admits q) refl
+        → (q : State) (short : Bool) (inputs out : List ℕ) → (runOn q short inputs out .refusal ≡ 14 → ⊥) → T (admits (runOn q short inputs out .state))
+    run-leaves keeps q short inputs out n = go (admits q) refl
       where
-        go : (b : Bool) → admits q ≡ b → T (admits (runOn q inputs out .state))
+        go : (b : Bool) → admits q ≡ b → T (admits (runOn q short inputs out .state))
         go true e =
-            run-all refusal (admits q) q inputs out (λ r. T (admits (r .state))) (λ _. unfold ran stops in (of-true e))
+            run-all refusal (admits q) short q inputs out (λ r. T (admits (r .state))) (λ _. unfold ran stops in (of-true e))
             (unfold ran in (ticks-keep (λ p. T (admits p)) keeps inputs q (of-true e)))
-        go false e = absurd (n (refusal-state refusal (admits q) q inputs out none e))
+        go false e = absurd (n (refusal-state refusal (admits q) short q inputs out none e))
 
     -- where no tick is refused 14, neither is a run from a state that is admitted
-    pub run-admitted : ((p : State) (i : ℕ) → step p i .refusal ≡ 14 → ⊥) → (q : State) (inputs out : List ℕ) → T (admits q) → runOn q inputs out .refusal ≡ 14 → ⊥
-    run-admitted other q inputs out ok = go (outputShort inputs out) refl
+    pub run-admitted : ((p : State) (i : ℕ) → step p i .refusal ≡ 14 → ⊥) → (q : State) (short : Bool) (inputs out : List ℕ) → T (admits q) → runOn q short inputs out .refusal ≡ 14 → ⊥
+    run-admitted other q short inputs out ok = go short refl
       where
         admitted : admits q ≡ true
         admitted = is-true (admits q) ok
@@ -256,7 +256,7 @@ module _ (k : ℕ) (step : State → ℕ → Step) where
             unfold stops tickThen in
             (ticks-all (λ _ _ x. x .refusal ≡ 14 → ⊥) (λ _ h. omega arith) (λ i _ p _ h. tick-other p i (inputForeign k i) refl h) (λ _ _ _ _ ih h. ih h))
 
-        go : (b : Bool) → outputShort inputs out ≡ b → runOn q inputs out .refusal ≡ 14 → ⊥
-        go true e h = omega (arith, refusal-short refusal (admits q) q inputs out none admitted e)
+        go : (b : Bool) → short ≡ b → runOn q short inputs out .refusal ≡ 14 → ⊥
+        go true e h = omega (arith, refusal-short refusal (admits q) short q inputs out none admitted e)
         go false e h =
-            ticks-other inputs q (sym (ap (λ (x : Run). x .refusal) (run-goes refusal (admits q) q inputs out none admitted e) ∙ (unfold ran in refl)) ∙ h)
+            ticks-other inputs q (sym (ap (λ (x : Run). x .refusal) (run-goes refusal (admits q) short q inputs out none admitted e) ∙ (unfold ran in refl)) ∙ h)

@@ -136,7 +136,7 @@ module _ (s : List ℕ) (sd : Sound s) (w : List ℕ) (ok : T (tableOk w)) (f : 
           → CallRight q c (cond b [] (legal (kOf s) is)) (tableRun w q is (c .out)) (sheetTicks s (cond b [] (legal (kOf s) is)) p)
       go true e =
           subst (λ (X : Run). CallRight q c [] X (sheetTicks s [] p))
-          (sym (run-short (kIn w) (tableStep w) (refusedIf (not (tableOk w)) 15) (tableStateOk w q) q is (c .out) layout admitted e))
+          (sym (run-short (kIn w) (tableStep w) (refusedIf (not (tableOk w)) 15) (tableStateOk w q) (outputShort is (c .out)) q is (c .out) layout admitted e))
           (unfold ticks stops in
           record {
             unrefused = refl;
@@ -154,7 +154,7 @@ module _ (s : List ℕ) (sd : Sound s) (w : List ℕ) (ok : T (tableOk w)) (f : 
           ap length (g .words) ∙ words-five (kOf s) (sheetStep s) (five-long s) ds p
           ∙ ap (λ (n : ℕ). 5 * n) (done-all (kOf s) (sheetStep s) ds p (g .unrefused) ∙ sym (g .done)) in
           subst (λ (X : Run). CallRight q c ds X (sheetTicks s ds p))
-          (sym (run-goes (kIn w) (tableStep w) (refusedIf (not (tableOk w)) 15) (tableStateOk w q) q is (c .out) layout admitted e))
+          (sym (run-goes (kIn w) (tableStep w) (refusedIf (not (tableOk w)) 15) (tableStateOk w q) (outputShort is (c .out)) q is (c .out) layout admitted e))
           (record {
             unrefused = g .unrefused;
             done = g .done;

@@ -18,7 +18,7 @@ use Rattle.meaning.specs.Hierarchy.{consistent}
 use Rattle.meaning.specs.Reaction.{running, delay}
 use Rattle.meaning.specs.Tick.{begin, tick}
 use Rattle.meaning.specs.Run.{State, reading, isFresh, readingsOk, inputForeign, Run, ran, run, nextState, outputShort, dueTimers}
-use Rattle.meaning.specs.SheetRun.{stateOk, tickFrom, stateAfter, sheetStep, sheetRun}
+use Rattle.meaning.specs.SheetRun.{stateOk, tickFrom, stateAfter, sheetStep, withNumbers, sheetRun}
 use Rattle.meaning.specs.Table.{kIn, bIn, delayIn, maskIn, timersIn, tableOk}
 use Rattle.meaning.specs.TableRun.{tableStateOk, cellOf, stateAfterCell, isStale, tableStep, tableRun}
 use Rattle.meaning.specs.WholeList.{legal}
@@ -168,11 +168,11 @@ unfolding sheetStep tickFrom tick
 tick-other s q i h = let k = rounds-refusal s (dueTimers (running s (q .at)) (q .readings)) i (suc (tOf s)) (begin s (q .at)) 0 in omega arith
 
 pub sheet-runs-on : SheetRunsOn
-unfolding SheetRunsOn sheetRun
-sheet-runs-on s h q inputs out more out′ n =
-    run-admitted (kOf s) (sheetStep s) (sheetRefusal s) h (stateOk s) (tick-other s) _ more out′
+unfolding SheetRunsOn sheetRun withNumbers
+sheet-runs-on s h q inputs out numbers more out′ numbers′ n =
+    run-admitted (kOf s) (sheetStep s) (sheetRefusal s) h (stateOk s) (tick-other s) _ _ more out′
     (run-leaves (kOf s) (sheetStep s) (sheetRefusal s) h (stateOk s)
-    (λ p i e ok. stays s (sound s h) p i ok (tick-done (kOf s) (sheetStep s) p i e .1)) q inputs out n)
+    (λ p i e ok. stays s (sound s h) p i ok (tick-done (kOf s) (sheetStep s) p i e .1)) q _ inputs out n)
 
 -- a tick of a table is refused 15, or not at all
 step-other : (w : List ℕ) (q : State) (i : ℕ) → tableStep w q i .refusal ≡ 14 → ⊥
@@ -187,9 +187,9 @@ pub table-runs-on : TableRunsOn
 unfolding TableRunsOn TableStateStays tableRun
 table-runs-on s w a q inputs out more out′ n =
     let layout = test-passed-i (tableOk w) 15 (accepted-e s w a .1) in
-    run-admitted (kIn w) (tableStep w) _ layout (tableStateOk w) (step-other w) _ more out′
+    run-admitted (kIn w) (tableStep w) _ layout (tableStateOk w) (step-other w) _ _ more out′
     (run-leaves (kIn w) (tableStep w) _ layout (tableStateOk w)
-    (λ p i e admitted. table-state-stays s w a p i admitted (tick-done (kIn w) (tableStep w) p i e .0) .1) q inputs out n)
+    (λ p i e admitted. table-state-stays s w a p i admitted (tick-done (kIn w) (tableStep w) p i e .0) .1) q _ inputs out n)
 
 pub accepted-not-stale : AcceptedNotStale
 unfolding AcceptedNotStale tableRun
@@ -208,13 +208,13 @@ accepted-not-stale s w a q inputs out = go (tableStateOk w q) (outputShort input
     layout = test-passed-i (tableOk w) 15 ok
 
     R : Run
-    R = run (kIn w) (tableStep w) (refusedIf (not (tableOk w)) 15) (tableStateOk w q) q inputs out
+    R = run (kIn w) (tableStep w) (refusedIf (not (tableOk w)) 15) (tableStateOk w q) (outputShort inputs out) q inputs out
 
     go : (x y : Bool) → tableStateOk w q ≡ x → outputShort inputs out ≡ y → R .refusal ≡ 15 → ⊥
     go false y e k z =
-        omega (arith, refusal-state (kIn w) (tableStep w) _ (tableStateOk w q) q inputs out layout e)
+        omega (arith, refusal-state (kIn w) (tableStep w) _ (tableStateOk w q) (outputShort inputs out) q inputs out layout e)
     go true true e k z =
-        omega (arith, refusal-short (kIn w) (tableStep w) _ (tableStateOk w q) q inputs out layout e k)
+        omega (arith, refusal-short (kIn w) (tableStep w) _ (tableStateOk w q) (outputShort inputs out) q inputs out layout e k)
     go true false e k z = other (ltb (length (legal (kOf s) inputs)) (length inputs)) (sym agreed ∙ z)
       where
         good : StandsGood s sd w ok f q
@@ -222,7 +222,7 @@ accepted-not-stale s w a q inputs out = go (tableStateOk w q) (outputShort input
 
         agreed : R .refusal ≡ refusedIf (ltb (length (legal (kOf s) inputs)) (length inputs)) 13
         agreed =
-            ap (λ (x : Run). x .refusal) (run-goes (kIn w) (tableStep w) _ (tableStateOk w q) q inputs out layout e k)
+            ap (λ (x : Run). x .refusal) (run-goes (kIn w) (tableStep w) _ (tableStateOk w q) (outputShort inputs out) q inputs out layout e k)
             ∙ (unfold ran refusedIf in (ticks-agree s sd w ok f inputs q (meant s sd w ok f q) (good .stands) (good .right) .refusal))
 
         other : (b : Bool) → refusedIf b 13 ≡ 15 → ⊥

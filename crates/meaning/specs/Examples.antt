@@ -121,7 +121,7 @@ one-chain = sheetOf 0 (serial 0 1 ∷ rowFrom 1 30 (λ m. serial (m - 1) (m + 1)
 
 -- the words of one tick from power-on
 abbrev first-tick : List ℕ → ℕ → List ℕ
-first-tick s i = sheetRun s powerOn (i ∷ []) (lent 5) .out
+first-tick s i = sheetRun s powerOn (i ∷ []) (lent 5) (lent 64) .run .out
 
 -- one meeting mode strictly contains another: 2→3 on event 0, 3→2 once 0 is taken, and 1→4 once 1 is taken, where 1 contains 2 and 3.
 -- In the third round transition 0 is triggered again and gives way to transition 2.
@@ -188,7 +188,7 @@ pub record Examples : Type 0 where
   pub short-table : compile sheet (lent 68) (lent 2) ≡ record { refusal = 10; f = 2; tableLength = 0; work = 3 ∷ 5 ∷ []; table = lent 68 }
   pub short-work : compile sheet (lent 69) (lent 1) ≡ record { refusal = 11; f = 1; tableLength = 0; work = 3 ∷ []; table = lent 69 }
   -- "these five ticks", by sheet run and by table run, in output words with two to spare
-  pub sheet-run : sheetRun sheet powerOn inputs (lent 27)
+  pub sheet-run : sheetRun sheet powerOn inputs (lent 27) (lent 320) .run
       ≡ record { done = 5; state = record { at = 5; readings = 0 ∷ 2 ∷ replicate 62 0 }; refusal = 0; rounds = 3; out = five-ticks ++ lent 2 }
   pub table-run : tableRun table powerOn inputs (lent 27)
       ≡ record { done = 5; state = record { at = 2; readings = 0 ∷ 2 ∷ replicate 62 0 }; refusal = 0; rounds = 0; out = five-ticks ++ lent 2 }
@@ -269,10 +269,10 @@ pub record Examples : Type 0 where
   pub named-once-active : tick two-events 3 0 1 .refusal ≡ 9
   pub named-present : tick two-events 3 0 3 .refusal ≡ 0
   -- taken, triggered again and giving way: not among the document's examples
-  pub outer-taken : sheetRun outer-first powerOn (0 ∷ 1 ∷ []) (lent 10) .out ≡ 7 ∷ 0 ∷ 7 ∷ 0 ∷ 0 ∷ 28 ∷ 14 ∷ 31 ∷ 7 ∷ 0 ∷ []
+  pub outer-taken : sheetRun outer-first powerOn (0 ∷ 1 ∷ []) (lent 10) (lent 128) .run .out ≡ 7 ∷ 0 ∷ 7 ∷ 0 ∷ 0 ∷ 28 ∷ 14 ∷ 31 ∷ 7 ∷ 0 ∷ []
   -- sets as the round began, and a round against a step of document 002: not among the document's examples either
-  pub judged-as-began : sheetRun as-began powerOn (1 ∷ []) (lent 5) .out ≡ 191 ∷ 40 ∷ 191 ∷ 5 ∷ 0 ∷ []
-  pub round-not-step : sheetRun outer-triggered powerOn (0 ∷ 1 ∷ []) (lent 10) .out ≡ 175 ∷ 0 ∷ 175 ∷ 0 ∷ 0 ∷ 336 ∷ 424 ∷ 511 ∷ 7 ∷ 0 ∷ []
+  pub judged-as-began : sheetRun as-began powerOn (1 ∷ []) (lent 5) (lent 64) .run .out ≡ 191 ∷ 40 ∷ 191 ∷ 5 ∷ 0 ∷ []
+  pub round-not-step : sheetRun outer-triggered powerOn (0 ∷ 1 ∷ []) (lent 10) (lent 128) .run .out ≡ 175 ∷ 0 ∷ 175 ∷ 0 ∷ 0 ∷ 336 ∷ 424 ∷ 511 ∷ 7 ∷ 0 ∷ []
 
 examples : Examples
 unfolding opened

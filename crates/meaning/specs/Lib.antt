@@ -7,6 +7,8 @@ pub mod GivesWay
 pub mod Reaction
 pub mod Within
 pub mod Tick
+pub mod RoundList
+pub mod Alternatives
 pub mod Run
 pub mod SheetRun
 pub mod Table
@@ -24,6 +26,7 @@ pub mod Acceptance
 pub mod NoIdleArrows
 pub mod HighestLevelFirst
 pub mod NamedEvents
+pub mod FiredAlternatives
 pub mod Promises
 pub mod Charts
 pub mod Opened

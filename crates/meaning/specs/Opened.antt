@@ -10,8 +10,10 @@ use Rattle.meaning.specs.GivesWay.{givesWay}
 use Rattle.meaning.specs.Reaction.{isDelay, delay, isTimer, running, holds, inFirst, alternativesFrom, alternatives, allHold, alternative, isDue, trigger, triggered, conflict, eligible, ambiguous, restless, exiting, entering, afterRound}
 use Rattle.meaning.specs.Within.{within, withinEach, masksOf}
 use Rattle.meaning.specs.Tick.{fiveWords, begin, chosen, roundsFrom, tick}
+use Rattle.meaning.specs.RoundList.{takesRound, roundList, tickRounds}
+use Rattle.meaning.specs.Alternatives.{numbersShort, firedIn, fired, tickNumbers}
 use Rattle.meaning.specs.Run.{reading, powerOn, isFresh, readingsOk, dueTimers, nextReadings, nextState, stops, tickThen, outputShort, inputForeign, ran, tickRefusal, ticks, run}
-use Rattle.meaning.specs.SheetRun.{stateOk, tickFrom, stateAfter, sheetStep, sheetRun}
+use Rattle.meaning.specs.SheetRun.{stateOk, tickFrom, stateAfter, sheetStep, numbersFrom, sheetNumbers, withNumbers, sheetRun}
 use Rattle.meaning.specs.Table.{wordIn, kIn, tIn, bIn, sourceIn, delayIn, offsetIn, lengthIn, endBeforeIn, maskIn, timersIn, cellsIn, cellWord, timerOk, blockOk, tableOk}
 use Rattle.meaning.specs.TableRun.{dueNumber, tableStateOk, cellOf, stateAfterCell, isStale, tableStep, tableRun}
 use Rattle.meaning.specs.Walk.{dueSet, workListFull, timersMany, cellCount, cellTick, listing, cellsFrom, walkFrom, walk}
@@ -58,12 +60,16 @@ unfoldable in-tick : Unit {0}
 unfolding fiveWords begin chosen roundsFrom tick
 in-tick = tt
 
+unfoldable in-alternatives : Unit {0}
+unfolding takesRound roundList tickRounds numbersShort firedIn fired tickNumbers
+in-alternatives = tt
+
 unfoldable in-run : Unit {0}
 unfolding reading powerOn isFresh readingsOk dueTimers nextReadings nextState stops tickThen outputShort inputForeign ran tickRefusal ticks run
 in-run = tt
 
 unfoldable in-sheet-run : Unit {0}
-unfolding stateOk tickFrom stateAfter sheetStep sheetRun
+unfolding stateOk tickFrom stateAfter sheetStep numbersFrom sheetNumbers withNumbers sheetRun
 in-sheet-run = tt
 
 unfoldable in-table : Unit {0}
@@ -95,5 +101,5 @@ unfolding names
 in-named-events = tt
 
 unfoldable pub opened : Unit {0}
-unfolding in-sets in-lists in-sheet in-check in-hierarchy in-gives-way in-reaction in-within in-tick in-run in-sheet-run in-table in-table-run in-walk in-compile in-milliseconds in-faithful in-named-events
+unfolding in-sets in-lists in-sheet in-check in-hierarchy in-gives-way in-reaction in-within in-tick in-alternatives in-run in-sheet-run in-table in-table-run in-walk in-compile in-milliseconds in-faithful in-named-events
 opened = tt

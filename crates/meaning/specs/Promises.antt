@@ -94,9 +94,9 @@ SheetStateStays =
 -- so no sheet run is refused 14 on what a run returned that was not refused 14 itself
 unfoldable pub SheetRunsOn : Type 0
 SheetRunsOn =
-    (s : List ℕ) → sheetRefusal s ≡ 0 → (q : State) (inputs out more out′ : List ℕ)
-    → (sheetRun s q inputs out .refusal ≡ 14 → ⊥)
-    → sheetRun s (sheetRun s q inputs out .state) more out′ .refusal ≡ 14 → ⊥
+    (s : List ℕ) → sheetRefusal s ≡ 0 → (q : State) (inputs out numbers more out′ numbers′ : List ℕ)
+    → (sheetRun s q inputs out numbers .run .refusal ≡ 14 → ⊥)
+    → sheetRun s (sheetRun s q inputs out numbers .run .state) more out′ numbers′ .run .refusal ≡ 14 → ⊥
 
 -- all of them
 pub record Promised : Type 0 where

@@ -105,8 +105,8 @@ module _ (k : ℕ) (step : State → ℕ → Step) where
       cond (eqb e 0) on (stops e q)
 
   -- the run on a state, a list of input sets and the output words: what is refused of the sheet or table itself, "then 14" (a state
-  -- that is not admitted), "then 12, then tick by tick"
-  unfoldable pub run : ℕ → Bool → State → List ℕ → List ℕ → Run
-  run refusal admitted q inputs out =
-      let e = firstRefusal (refusal ∷ refusedIf (not admitted) 14 ∷ refusedIf (outputShort inputs out) 12 ∷ []) in
+  -- that is not admitted), "then 12" (a lent list is too short), "then tick by tick"
+  unfoldable pub run : ℕ → Bool → Bool → State → List ℕ → List ℕ → Run
+  run refusal admitted short q inputs out =
+      let e = firstRefusal (refusal ∷ refusedIf (not admitted) 14 ∷ refusedIf short 12 ∷ []) in
       ran out (cond (eqb e 0) (ticks inputs q) (stops e q))

@@ -5,7 +5,7 @@ use Prim.Native.Nat.{ℕ, _+_, _*_, _^_}
 use lib.Dec.{eqb, ltb}
 use Rattle.sets.specs.Sets.{has, digit, members, someIn}
 use Rattle.meaning.specs.Lists.{rowFrom, refusedIf}
-use Rattle.meaning.specs.Run.{State, reading, isFresh, readingsOk, dueTimers, nextState, Step, Ticks, ticks, Run, run}
+use Rattle.meaning.specs.Run.{State, reading, isFresh, readingsOk, dueTimers, nextState, Step, Ticks, ticks, outputShort, Run, run}
 use Rattle.meaning.specs.Table.{kIn, bIn, sourceIn, delayIn, timersIn, cellWord, tableOk}
 
 -- "d is the set of due timers, lowest transition in bit 0": the number that the due ones of the timers ts make
@@ -48,4 +48,4 @@ module _ (w : List ℕ) where
 
   -- the run of a table on a state, a list of input sets and the output words: "15, then 14, then 12, then tick by tick"
   unfoldable pub tableRun : State → List ℕ → List ℕ → Run
-  tableRun q inputs out = run (kIn w) tableStep (refusedIf (not (tableOk w)) 15) (tableStateOk q) q inputs out
+  tableRun q inputs out = run (kIn w) tableStep (refusedIf (not (tableOk w)) 15) (tableStateOk q) (outputShort inputs out) q inputs out

@@ -1,3 +1,4 @@
 pub mod Plan
 pub mod Facts
 pub mod Rounds
+pub mod Causes

@@ -73,7 +73,7 @@ pub struct Start {
 }
 
 // The sure transitions, and those of the unsure ones whose source is a current mode and whose terms hold.
-fn triggered(sheet: &[u32], sure: u64, unsure: u64, z: Sets, begun: u32, input: u32) -> u64
+pub fn triggered(sheet: &[u32], sure: u64, unsure: u64, z: Sets, begun: u32, input: u32) -> u64
     requires { ⌜ (sheetRefusal (now sheet) ≡ 0)
         × ((t : ℕ) → has unsure t ≡ true → (t < tOf (now sheet)) × (isDelay (now sheet) t ≡ false)) ⌝ }
     ensures { λ r. ⌜ r ≡ union sure (those 64 unsure (λ t. has (z .modes) (source (now (sheet .entry)) t)
@@ -140,7 +140,7 @@ fn moves_of(sheet: &[u32], plan: &Plan, es: u64) -> Moves
 }
 
 // The round of the triggered transitions ts: who gives way is worked out only where two of them are in conflict.
-fn round_of(sheet: &[u32], plan: &Plan, ts: u64) -> Round
+pub fn round_of(sheet: &[u32], plan: &Plan, ts: u64) -> Round
     requires { ⌜ Planned (now sheet) (now plan) × (ts < 2 ^ tOf (now sheet)) ⌝ }
     ensures { λ r. ⌜ RoundOf (now (sheet .entry)) ts r ⌝ }
 {
@@ -157,7 +157,7 @@ fn round_of(sheet: &[u32], plan: &Plan, ts: u64) -> Round
 }
 
 // What is carried on after a round that takes es.
-fn after_round(z: Sets, ends: u64, es: u64) -> Sets
+pub fn after_round(z: Sets, ends: u64, es: u64) -> Sets
     ensures { λ r. ⌜ r ≡ afterEnds z ends es ⌝ }
 {
     let exits = transitions::low(ends);

@@ -1,14 +1,14 @@
 -- Laws of `over`: a row of stores, a row after a row, a part lent and put back. Assumes nothing.
-use mathlib.Core.Path.{_≡_, refl, ap, _∙_}
+use mathlib.Core.Path.{_≡_, refl, sym, ap, _∙_}
 use mathlib.Core.Logic.{_⊎_, inl, inr}
-use mathlib.Core.List.{List, [], _++_, append-assoc, append-nil}
+use mathlib.Core.List.{List, [], _∷_, _++_, append-assoc, append-nil}
 use Prim.Native.Nat.{ℕ, _+_, _-_, _≤_, _<_}
 use native.Mathlib.Omega.{arith}
 use native.Mathlib.Nat.{zero-add, add-zero, add-assoc}
-use lib.ListN.{length, getD, List·getD-append, take, drop, length-append, length-drop, take-append-drop, drop-of-length-le}
+use lib.ListN.{length, set, length-replicate, replicate-append-replicate, getD, List·getD-append, take, drop, length-append, length-drop, take-append-drop, drop-of-length-le}
 use lib.Seq.{sets, sets-eq, length-take-le, take-all, take-at, drop-append-add, drop-drop, getD-take, getD-drop, getD-append-add}
 use borrow.Rule.Slice.PartMut.{putMid}
-use Rattle.rows.specs.Over.{over}
+use Rattle.rows.specs.Over.{over, zeros}
 
 pub over-def : (l : List ℕ) (at : ℕ) (vs : List ℕ) → over l at vs ≡ take at l ++ vs ++ drop (at + length vs) l
 unfolding over
@@ -73,6 +73,24 @@ module _ (l : List ℕ) (at : ℕ) (vs : List ℕ) (h : at + length vs ≤ lengt
       let q : n + (p - n) ≡ p = omega arith in
       ap (λ (i : ℕ). getD (take at l ++ vs ++ drop n l) i 0) e ∙ getD-append-add (take at l ++ vs) (drop n l) (p - n) 0
       ∙ getD-drop n l (p - n) 0 ∙ ap (λ (i : ℕ). getD l i 0) q
+
+-- ---- a row of zeros: none, one more
+
+pub zeros-length : (n : ℕ) → length (zeros n) ≡ n
+unfolding zeros
+zeros-length n = length-replicate n 0
+
+pub over-no-zeros : (l : List ℕ) (at : ℕ) → over l at (zeros 0) ≡ l
+unfolding zeros
+over-no-zeros l at = over-nil l at
+
+pub over-zero : (l : List ℕ) (at n : ℕ) → at + n < length l → set (over l at (zeros n)) (at + n) 0 ≡ over l at (zeros (n + 1))
+unfolding zeros
+over-zero l at n h =
+    let room : at + length (zeros n) ≤ length l = omega (arith, zeros-length n) in
+    over-sets (over l at (zeros n)) (at + n) (0 ∷ []) (omega (arith, length-over l at (zeros n) room))
+    ∙ over-more l at (zeros n) room (0 ∷ []) (at + n) (ap (λ (k : ℕ). at + k) (sym (zeros-length n)))
+    ∙ ap (over l at) (replicate-append-replicate n 1 0)
 
 -- a row put at the front of the part from `off` on
 pub over-part : (l : List ℕ) (off : ℕ) (vs : List ℕ) → off ≤ length l → take off l ++ over (drop off l) 0 vs ≡ over l off vs

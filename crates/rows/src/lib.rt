@@ -3,7 +3,7 @@ ghost use mathlib.Core.Path.{_≡_};
 ghost use mathlib.Core.List.{[], _∷_};
 ghost use Prim.Native.Nat.{_+_, _≤_};
 ghost use lib.ListN.{length};
-ghost use Rattle.rows.specs.Over.{over, threeOf, fiveOf, sixOf};
+ghost use Rattle.rows.specs.Over.{over, zeros, threeOf, fiveOf, sixOf};
 
 // A mode mask and a set of transitions, low and high: a block's header with its running timers, or the last words of a tick.
 pub struct Three {
@@ -63,4 +63,15 @@ pub fn put_six(out: &mut [u32], at: usize, w: Six)
 {
     out[at] = w.next;
     put_five(out, at + 1, w.five);
+}
+
+pub fn put_zeros(out: &mut [u8], at: usize)
+    requires { ⌜ at + 64 ≤ length (now out) ⌝ }
+    ensures { λ _. ⌜ now (out .exit) ≡ over (now (out .entry)) at (zeros 64) ⌝ }
+{
+    let mut t = 0;
+    while t < 64 {
+        out[at + t] = 0;
+        t += 1;
+    }
 }

@@ -7,13 +7,13 @@ ghost use Prim.Native.Nat.{ℕ, _+_, _*_, _%_, _^_, _≤_, _<_};
 ghost use lib.Dec.{T};
 ghost use lib.ListN.{length, getD};
 ghost use Rattle.sets.specs.Sets.{has, meet};
-ghost use Rattle.rows.specs.Over.{fiveOf};
+ghost use Rattle.rows.specs.Over.{over, zeros, fiveOf};
 ghost use Rattle.meaning.specs.Lists.{rowFrom};
 ghost use Rattle.meaning.specs.Refusal.{numberOf};
 ghost use Rattle.meaning.specs.Reaction.{running};
 ghost use Rattle.meaning.specs.Run.{ran};
 ghost use Rattle.meaning.specs.Sheet.{tOf};
-ghost use Rattle.meaning.specs.SheetRun.{stateOk, sheetTicks, sheetRun};
+ghost use Rattle.meaning.specs.SheetRun.{stateOk, sheetTicks, withNumbers, sheetRun};
 ghost use Rattle.reaction.specs.Plan.{Planned, sourcesIn, timerDelay};
 ghost use Rattle.reaction.specs.Rounds.{StartOf};
 ghost use Rattle.run.specs.States.{stateOf};
@@ -24,6 +24,7 @@ use super::state::state_ok;
 use meaning::refusal::Refusal;
 use meaning::refusal::number;
 use planner::put_plan;
+use reaction::alternatives::put_numbers;
 use reaction::plan::EARLY;
 use reaction::plan::Plan;
 use reaction::plan::SIZE;
@@ -38,6 +39,7 @@ use reaction::tick::rounds;
 use reaction::tick::start_of;
 use rows::Five;
 use rows::put_five;
+use rows::put_zeros;
 use run::counts::Rounds;
 use run::counts::Ticks;
 use run::counts::with_rounds;
@@ -107,6 +109,17 @@ fn quiet_words(x: u32) -> Five
     }
 }
 
+// The words and the numbers of such a tick, set i of the list.
+fn put_quiet(out: &mut [u32], numbers: &mut [u8], i: usize, x: u32)
+    requires { ⌜ (5 * i + 5 ≤ length (now out)) × (64 * i + 64 ≤ length (now numbers)) ⌝ }
+    ensures { λ _. ⌜
+        (now (out .exit) ≡ over (now (out .entry)) (5 * i) (0 ∷ 0 ∷ x ∷ 0 ∷ 0 ∷ []))
+        × (now (numbers .exit) ≡ over (now (numbers .entry)) (64 * i) (zeros 64)) ⌝ }
+{
+    put_five(out, 5 * i, quiet_words(x));
+    put_zeros(numbers, 64 * i);
+}
+
 // What a tick leaves: the transitions whose source is active, and the timers among them that start, whose source was entered.
 pub struct Left {
     pub live: u64,
@@ -142,15 +155,18 @@ fn ticks(
     start: State,
     inputs: &[u32],
     out: &mut [u32],
+    numbers: &mut [u8],
 ) -> Ran
     requires { ⌜
         Planned (now sheet) (now plan)
         × (now delays ≡ rowFrom 0 64 (timerDelay (now sheet)))
         × (stateOk (now sheet) (stateOf start) ≡ true)
-        × (5 * length (now inputs) ≤ length (now out)) ⌝ }
+        × (5 * length (now inputs) ≤ length (now out))
+        × (64 * length (now inputs) ≤ length (now numbers)) ⌝ }
     ensures { λ r. ⌜
-        (ranOf r (now (out .exit))
-        ≡ ran (now (out .entry)) (sheetTicks (now (sheet .entry)) (now (inputs .entry)) (stateOf start)))
+        (record { run = ranOf r (now (out .exit)); numbers = now (numbers .exit) }
+        ≡ withNumbers (now (sheet .entry)) (stateOf start) (now (inputs .entry)) (now (numbers .entry))
+        (ran (now (out .entry)) (sheetTicks (now (sheet .entry)) (now (inputs .entry)) (stateOf start))))
         × (r .rounds .1 < 2 ^ 32) ⌝ }
 {
     let timers = plan[TIMERS];
@@ -173,7 +189,7 @@ fn ticks(
         let from = start_from(sheet, plan, power_on, x, live);
         let first = first_triggered(sheet, plan, from, d.set, input);
         if first == 0 && x != 0 {
-            put_five(out, 5 * i, quiet_words(x));
+            put_quiet(out, numbers, i, x);
             soon = d.next;
         } else {
             let o = rounds(sheet, plan, from.begun, from.entered, first, input);
@@ -184,6 +200,17 @@ fn ticks(
             let left = left_by(sheet, plan, x, live, o);
             restart(delays, &mut ends, left.starts, now as u64);
             put_five(out, 5 * i, five_words(from.begun, o));
+            put_numbers(
+                sheet,
+                plan,
+                from.begun,
+                from.entered,
+                first,
+                input,
+                o,
+                numbers,
+                64 * i,
+            );
             total = with_rounds(total, o.rounds);
             x = o.modes;
             live = left.live;
@@ -209,12 +236,13 @@ fn stops(state: State, why: Refusal) -> Ran
     }
 }
 
-// The sheet run, on any sheet words, state, input sets and output words: 1 to 6, 14, 12, then tick by tick 13, then 8 or 9. A
-// refused tick leaves the state of the tick before; only the five words of each done tick are written, at 5p.
-pub fn run(sheet: &[u32], state: State, inputs: &[u32], out: &mut [u32]) -> Ran
+// The sheet run, on any sheet words, state, input sets, output words and numbers: 1 to 6, 14, 12, then tick by tick 13, then 8 or 9. A
+// refused tick leaves the state of the tick before; only the five words of each done tick are written, at 5p, and its 64 numbers, at
+// 64p.
+pub fn run(sheet: &[u32], state: State, inputs: &[u32], out: &mut [u32], numbers: &mut [u8]) -> Ran
     ensures { λ r. ⌜
-        (ranOf r (now (out .exit))
-        ≡ sheetRun (now (sheet .entry)) (stateOf state) (now (inputs .entry)) (now (out .entry)))
+        (record { run = ranOf r (now (out .exit)); numbers = now (numbers .exit) }
+        ≡ sheetRun (now (sheet .entry)) (stateOf state) (now (inputs .entry)) (now (out .entry)) (now (numbers .entry)))
         × (totalOf (r .rounds) ≤ tOf (now (sheet .entry)) * r .done .0)
         × (r .rounds .1 < 2 ^ 32) ⌝ }
 {
@@ -228,8 +256,8 @@ pub fn run(sheet: &[u32], state: State, inputs: &[u32], out: &mut [u32]) -> Ran
     if !state_ok(sheet, &plan, &delays, state) {
         return stops(state, Refusal::State);
     }
-    if out.len() / 5 < inputs.len() {
+    if out.len() / 5 < inputs.len() || numbers.len() / 64 < inputs.len() {
         return stops(state, Refusal::ShortOutput);
     }
-    ticks(sheet, &plan, &delays, state, inputs, out)
+    ticks(sheet, &plan, &delays, state, inputs, out, numbers)
 }

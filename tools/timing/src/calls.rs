@@ -23,6 +23,7 @@ macro_rules! calls {
                 state: *mut u32, state_len: usize,
                 inputs: *const u32, inputs_len: usize,
                 out: *mut u32, out_len: usize,
+                numbers: *mut u8, numbers_len: usize,
                 info: *mut u64, info_len: usize,
             ) -> u32;
         }
@@ -41,8 +42,8 @@ macro_rules! calls {
             (refusal, info[0] as usize, info[1] as usize)
         }
 
-        // From power-on: refusal, ticks done
-        pub fn table_run(table: &[u32], inputs: &[u32], out: &mut [u32]) -> (u32, usize) {
+        // From power-on: refusal, ticks done. A table run has no numbers.
+        pub fn table_run(table: &[u32], inputs: &[u32], out: &mut [u32], _: &mut [u8]) -> (u32, usize) {
             let (mut state, mut info) = ([0u32; 65], [0u64; 1]);
             let refusal = unsafe {
                 native_table_run(
@@ -56,7 +57,7 @@ macro_rules! calls {
             (refusal, info[0] as usize)
         }
 
-        pub fn sheet_run(sheet: &[u32], inputs: &[u32], out: &mut [u32]) -> (u32, usize) {
+        pub fn sheet_run(sheet: &[u32], inputs: &[u32], out: &mut [u32], numbers: &mut [u8]) -> (u32, usize) {
             let (mut state, mut info) = ([0u32; 65], [0u64; 3]);
             let refusal = unsafe {
                 native_sheet_run(
@@ -64,6 +65,7 @@ macro_rules! calls {
                     state.as_mut_ptr(), state.len(),
                     inputs.as_ptr(), inputs.len(),
                     out.as_mut_ptr(), out.len(),
+                    numbers.as_mut_ptr(), numbers.len(),
                     info.as_mut_ptr(), info.len(),
                 )
             };

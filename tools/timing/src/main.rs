@@ -56,7 +56,8 @@ struct Chart {
 }
 
 type Compile = fn(&[u32], &mut [u32], &mut [u32]) -> (u32, usize, usize);
-type Run = fn(&[u32], &[u32], &mut [u32]) -> (u32, usize);
+// Sheet or table, input sets, output words, and the numbers of the alternatives, which a table run leaves.
+type Run = fn(&[u32], &[u32], &mut [u32], &mut [u8]) -> (u32, usize);
 
 // An operation under the name of its version. The first version is ours; the others are what it is timed beside.
 struct Version<F> {
@@ -74,12 +75,12 @@ fn rust_compile(sheet: &[u32], table: &mut [u32], work: &mut [u32]) -> (u32, usi
     (0, c.f, c.length)
 }
 
-fn rust_table_run(table: &[u32], inputs: &[u32], out: &mut [u32]) -> (u32, usize) {
+fn rust_table_run(table: &[u32], inputs: &[u32], out: &mut [u32], _: &mut [u8]) -> (u32, usize) {
     (0, fast::run_table_in(table, TableState::FRESH, inputs, out, edition()).done)
 }
 
-fn rust_sheet_run(sheet: &[u32], inputs: &[u32], out: &mut [u32]) -> (u32, usize) {
-    (0, fast::run_sheet_in::<u8>(sheet, SheetState::FRESH, inputs, out, &mut [], edition()).done)
+fn rust_sheet_run(sheet: &[u32], inputs: &[u32], out: &mut [u32], numbers: &mut [u8]) -> (u32, usize) {
+    (0, fast::run_sheet_in(sheet, SheetState::FRESH, inputs, out, numbers, edition()).done)
 }
 
 fn compiles() -> Vec<Version<Compile>> {
@@ -155,13 +156,13 @@ fn time_walks(c: &Chart, budget: f64) {
 
 // The best time of each version of a run, by turns.
 fn run_times(versions: &[Version<Run>], words: &[u32], inputs: &[u32], budget: f64) -> Vec<f64> {
-    let mut outs: Vec<_> = versions.iter().map(|_| vec![0u32; 5 * inputs.len()]).collect();
-    for (v, out) in versions.iter().zip(&mut outs) {
-        assert_eq!((v.call)(words, inputs, out), (0, inputs.len()));
+    let mut lent: Vec<_> = versions.iter().map(|_| (vec![0u32; 5 * inputs.len()], vec![10u8; 64 * inputs.len()])).collect();
+    for (v, (out, numbers)) in versions.iter().zip(&mut lent) {
+        assert_eq!((v.call)(words, inputs, out, numbers), (0, inputs.len()));
     }
-    assert!(outs.iter().all(|o| *o == outs[0]));
-    let mut turns: Vec<_> = versions.iter().zip(&mut outs)
-        .map(|(v, out)| || { black_box((v.call)(black_box(words), inputs, out)); }).collect();
+    assert!(lent.iter().all(|(out, _)| *out == lent[0].0) && lent[0].1 == lent[1].1);
+    let mut turns: Vec<_> = versions.iter().zip(&mut lent)
+        .map(|(v, (out, numbers))| || { black_box((v.call)(black_box(words), inputs, out, numbers)); }).collect();
     by_turns(budget, &mut turns.iter_mut().map(|f| f as &mut dyn FnMut()).collect::<Vec<_>>())
 }
 
@@ -187,7 +188,7 @@ fn time_sheet_runs(c: &Chart, budget: f64) {
 // The best time of many runs without a tick, by turns.
 fn empty_run_times(versions: &[Version<Run>], sheet: &[u32], budget: f64) -> Vec<f64> {
     let mut turns: Vec<_> = versions.iter()
-        .map(|v| || for _ in 0..CALLS { black_box((v.call)(black_box(sheet), &[], &mut [])); }).collect();
+        .map(|v| || for _ in 0..CALLS { black_box((v.call)(black_box(sheet), &[], &mut [], &mut [])); }).collect();
     by_turns(budget, &mut turns.iter_mut().map(|f| f as &mut dyn FnMut()).collect::<Vec<_>>())
 }
 

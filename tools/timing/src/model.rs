@@ -11,7 +11,7 @@ fn lent<T>(x: &[T]) -> Slice {
     Slice(x.as_ptr() as *const u8, x.len())
 }
 
-pub fn sheet_run(sheet: &[u32], inputs: &[u32], out: &mut [u32]) -> (u32, usize) {
+pub fn sheet_run(sheet: &[u32], inputs: &[u32], out: &mut [u32], _: &mut [u8]) -> (u32, usize) {
     let (state, info) = ([0u32; 65], [0u64; 3]);
     unsafe { mc_sheet_run(&lent(sheet), &lent(&state), &lent(inputs), &lent(out), &lent(&info)) };
     (info[0] as u32, info[1] as usize)
