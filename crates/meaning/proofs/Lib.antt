@@ -16,6 +16,7 @@ pub mod ReadingLaws
 pub mod TickInWordsLaws
 pub mod RunLaws
 pub mod SheetTicksLaws
+pub mod NumberLaws
 pub mod WalkFuel
 pub mod WalkLaws
 pub mod TableLaws
