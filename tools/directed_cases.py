@@ -704,6 +704,78 @@ CONVERSIONS = [
 ]
 
 
+# ---------------------------------------------------------------- the alternatives that fired
+
+# an arrow of eight alternatives, the last two by where the other region stands
+EIGHT = sheet(6, regions(2, 3), arrow(2, 3, on(0), OR, on(1), OR, on(2), OR, on(3), OR, on(4), OR, on(5), OR, active(6),
+                                      OR, active(7)))
+AT_5, AT_6, AT_7 = [(mask(0, 1, 2, 4, m), {}) for m in (5, 6, 7)]
+# 64 arrows, all timers but 31, 32 and 63, which leave the modes 4, 5 and 9
+MANY = sheet(1, flat(9), *[arrow(t // 8 + 1, [m for m in range(1, 10) if m != t // 8 + 1][t % 8],
+                                 on(0) if t in (31, 32) else after(9)) for t in range(63)], arrow(9, 1, on(0)))
+
+# a name, the refusal, the sheet, the state, the input sets
+FIRED = [
+    *[(f"alternative {e + 1} of eight alone", 0, EIGHT, AT_5, [1 << e]) for e in range(6)],
+    ("alternative 7 of eight alone", 0, EIGHT, AT_6, [0]),
+    ("alternative 8 of eight alone", 0, EIGHT, AT_7, [0]),
+    ("none of eight alternatives", 0, EIGHT, AT_5, [0]),
+    *[(f"several alternatives hold, the lowest is {e}", 0, EIGHT, at, [given])
+      for e, at, given in ((1, AT_5, 63), (2, AT_5, 62), (3, AT_6, 36), (5, AT_5, 48), (6, AT_7, 32))],
+    ("two terms of an alternative, then another", 0,
+     sheet(2, TWO, arrow(1, 2, on(0), on(1), OR, off(1), on(0)), arrow(2, 1, after(1))), FRESH, [3, 0, 1, 0, 3]),
+    ("one alternative of several terms", 0, sheet(2, TWO, arrow(1, 2, on(0), on(1)), arrow(2, 1, off(0), off(1))),
+     FRESH, [3, 0, 3, 1, 2]),
+    ("a lower alternative holds in the round after", 0,
+     sheet(1, regions(2, 2), arrow(2, 3, entered(6), OR, on(0)), arrow(5, 6, on(0)), arrow(3, 2, off(0)),
+           arrow(6, 5, off(0))), FRESH, [0, 1, 0, 1]),
+    ("a lower alternative holds two rounds after", 0,
+     sheet(1, regions(2, 2, 2), arrow(2, 3, taken(2), OR, on(0)), arrow(5, 6, on(0)), arrow(8, 9, entered(6))),
+     FRESH, [0, 1]),
+    ("each round has its own alternative", 0,
+     sheet(1, regions(2, 2, 2), arrow(2, 3, on(0)), arrow(5, 6, exited(8), OR, entered(3)),
+           arrow(8, 9, exited(5), off(0), OR, taken(1), OR, entered(6))), FRESH, [0, 1]),
+    ("taken in the second round by what the first did", 0,
+     sheet(1, regions(2, 2), arrow(2, 3, on(0)), arrow(5, 6, off(0), OR, entered(6), OR, exited(2))), FRESH, [1, 1]),
+    ("gives way by the second alternative, taken by the first", 0,
+     sheet(1, BOTH, arrow(3, 4, entered(8), OR, on(0)), arrow(6, 8, on(0)), arrow(8, 7, taken(1))), FRESH, [0, 1]),
+    ("active as the round began", 0,
+     sheet(1, regions(2, 2), arrow(2, 3, active(6), OR, on(0)), arrow(5, 6, on(0)), arrow(6, 5, off(0))),
+     FRESH, [0, 1, 0]),
+    ("a delay of 0, a timer, and terms", 0,
+     sheet(1, regions(2, 3, 2), arrow(2, 3, on(0)), arrow(3, 2, after(2)), arrow(5, 6, after(1)), arrow(6, 7, after(0)),
+           arrow(7, 5, after(3)), arrow(9, 10, on(0), OR, off(0))), FRESH, [0, 0, 1, 0, 0, 1, 0]),
+    ("transition 31", 0, MANY, (mask(0, 4), {t: 9 for t in range(24, 31)}), [1, 0]),
+    ("transition 32", 0, MANY, (mask(0, 5), {t: 9 for t in range(33, 40)}), [1, 0]),
+    ("transition 63", 0, MANY, (mask(0, 9), {}), [1, 0]),
+    ("no transition is taken", 0, sheet(1, TWO, GO), FRESH, [0, 0, 0]),
+    ("no transition", 0, sheet(1, TWO), FRESH, [1, 0]),
+    ("the third set has a bit at k", 13, sheet(1, TWO, GO, BACK), FRESH, [0, 1, 2, 0]),
+    ("the second tick is ambiguous", 8, sheet(1, THREE, GO, arrow(1, 3, on(0))), FRESH, [0, 1, 0]),
+    ("the second tick is restless in its third round", 9,
+     sheet(1, regions(2, 2), arrow(2, 3, on(0)), arrow(3, 2, taken(0)), arrow(5, 6, on(0))), FRESH, [0, 1, 0]),
+]
+
+# a name, the refusal, the state, the input sets, the output words, the numbers; on CLOCKS
+NUMBERED = [
+    ("no input set, no word, no number", 0, GOOD, [], 0, 0),
+    ("no input set, numbers left as they are", 0, GOOD, [], 0, 9),
+    ("64 numbers a set", 0, GOOD, [0, 1], 10, 128),
+    ("one number less", 12, GOOD, [0, 1], 10, 127),
+    ("one number more", 0, GOOD, [0, 1], 10, 129),
+    ("one output word less", 12, GOOD, [0, 1], 9, 128),
+    ("one of each less", 12, GOOD, [0, 1], 9, 127),
+    ("one output word less, numbers for a set more", 12, GOOD, [0, 1], 9, 192),
+    ("one number less, words for a set more", 12, GOOD, [0, 1], 15, 127),
+    ("no number", 12, GOOD, [0], 5, 0),
+    ("63 numbers", 12, GOOD, [0], 5, 63),
+    ("14 and too few numbers", 14, BAD, [0], 5, 63),
+    ("too few numbers and 13", 12, GOOD, [2], 5, 63),
+    ("too few numbers for a set after 13", 12, GOOD, [2, 0], 10, 64),
+    ("13 in the second tick", 13, GOOD, [0, 2], 10, 128),
+]
+
+
 # ---------------------------------------------------------------- masks of the modes within each mode
 
 def chain(count):
@@ -745,6 +817,10 @@ def run_case(case, name, refusal, state, inputs, outputs):
     return name, word, refusal, [case, *state_numbers(state), len(inputs), *inputs, outputs]
 
 
+def numbers_case(name, refusal, state, inputs, outputs, numbers):
+    return name, "alternatives", refusal, [15, *state_numbers(state), len(inputs), *inputs, outputs, numbers]
+
+
 def compile_case(name, refusal, table, work):
     return name, "compile", refusal, [3, table, work]
 
@@ -762,6 +838,9 @@ def state_cases():
         states = {GOOD: (start, {0: 4, 2: 2}), BAD: (start, {0: 5, 2: 2})}
         for name, refusal, state, inputs, outputs in RUNS:
             yield run_case(case, name, refusal, states[state], inputs, outputs)
+    states = {GOOD: (START, {0: 4, 2: 2}), BAD: (START, {0: 5, 2: 2})}
+    for name, refusal, state, inputs, outputs, numbers in NUMBERED:
+        yield numbers_case(name, refusal, states[state], inputs, outputs, numbers)
 
 
 def broken_cases():
@@ -771,16 +850,18 @@ def broken_cases():
         yield run_case(2, f"{refusal}, no input set", refusal, FRESH, [], 0)
         yield run_case(2, f"{refusal} before 14", refusal, (0, {0: 1}), [], 0)
         yield run_case(2, f"{refusal} before 12 and 13", refusal, FRESH, [TOP], 4)
+        yield numbers_case(f"{refusal} before too few numbers", refusal, FRESH, [0], 5, 63)
         yield compile_case(f"{refusal} before 10 and 11", refusal, 0, 0)
         yield compile_case(f"{refusal} leaves the work list", refusal, 20, 4)
         yield run_case(4, f"{refusal} leaves no table, 15 before 14 and 12", 15, (0, {0: 1}), [0], 4)
 
 
 def tick_cases():
-    """Each chart's run, its compilation, and the same run of its table."""
+    """Each chart's run, without and with its numbers, its compilation, and the same run of its table."""
     for name, words, inputs, of_run, of_compile in TICKS:
         yield check_case(name, 0, words)
         yield run_case(2, name, of_run, FRESH, inputs, 5 * len(inputs))
+        yield numbers_case(name, of_run, FRESH, inputs, 5 * len(inputs), 64 * len(inputs))
         yield compile_case(name, of_compile, 12000, 64)
         if not of_compile:
             yield run_case(4, name, of_run, FRESH, inputs, 5 * len(inputs))
@@ -803,6 +884,9 @@ def stream():
     yield from broken_cases()
     yield from state_cases()
     yield from tick_cases()
+    for name, refusal, words, state, inputs in FIRED:
+        yield check_case(name, 0, words)
+        yield numbers_case(name, refusal, state, inputs, 5 * len(inputs) + 2, 64 * len(inputs) + 3)
     yield from compile_cases(COMPILES)
     yield from compile_cases(LARGE_COMPILES)
     for name, refusal, tick, delays, results in CONVERSIONS:

@@ -38,7 +38,7 @@ FUNCTIONS = """
     bits mask_of Transition.is_delay Transition.delay Transition.is_timer Transition.alternatives Chart.children
     Chart.ancestors Chart.contains Chart.meeting Chart.within Chart.side Chart.completed Chart.consistent Chart.running
     Chart.timer_words Chart.work_out parse mode_rows_ok ends_ok terms_ok Tick.rounds Tick.words term_holds
-    alternative_that_holds tick react conflict gives_way State.fresh readings_ok sheet_state_ok table_state_ok
+    alternative_that_holds Tick.numbers tick react conflict gives_way State.fresh readings_ok sheet_state_ok table_state_ok
     sheet_tick run_sheet cell_tick cell_numbers compile_sheet table_words table_layout_ok block_at timers_of delay_of
     cell_at table_tick run_table""".split()
 ELSEWHERE = {"ages", "aged", "somewhere"}           # names of requests that have not landed

@@ -33,7 +33,7 @@ pub struct Asked {
 }
 
 // A digest with one more word.
-fn with_word(h: u64, word: u32) -> u64
+pub fn with_word(h: u64, word: u32) -> u64
     requires { ⌜ h < 4294967291 ⌝ }
     ensures { λ r. ⌜ r < 4294967291 ⌝ }
 {
@@ -158,24 +158,33 @@ pub fn check(buf: &mut [u8; 65536], from: Input, sheet: &mut [u32]) -> Read
     read
 }
 
+// The refusal of a sheet run, its ticks done and its rounds into the line at a place; the place after them.
+pub fn put_counts(line: &mut [u8; 4096], from: usize, ran: Ran) -> usize
+    requires { ⌜ from ≤ 64 ⌝ }
+    ensures { λ r. ⌜ r ≤ from + 63 ⌝ }
+{
+    let refusal = ran.refusal;
+    let rounds = ran.rounds;
+    let mut at = text::put(line, from, number(refusal) as u64);
+    at = text::put(line, at, ran.done.0 as u64);
+    text::put(line, at, total(rounds))
+}
+
 // Writes the line of a sheet run, with the digest of its output words.
 fn write_sheet_run(ran: Ran, outputs: u64) {
     let mut line = [0u8; 4096];
-    let refusal = ran.refusal;
-    let rounds = ran.rounds;
     let state = ran.state;
     let mut at = text::start(&mut line, b"sheet");
-    at = text::put(&mut line, at, number(refusal) as u64);
-    at = text::put(&mut line, at, ran.done.0 as u64);
-    at = text::put(&mut line, at, total(rounds));
+    at = put_counts(&mut line, at, ran);
     at = text::put(&mut line, at, outputs);
     at = put_state(&mut line, at, state);
     text::write(&mut line, at);
 }
 
-// Runs the sheet and writes the line of the run.
+// Runs the sheet and writes the line of the run; its numbers are not asked for.
 fn run_sheet(sheet: &[u32], state: State, inputs: &[u32], out: &mut [u32]) {
-    let ran = simulator::sheet_run::run(sheet, state, inputs, out);
+    let mut numbers = [0u8; 4096];
+    let ran = simulator::sheet_run::run(sheet, state, inputs, out, &mut numbers);
     write_sheet_run(ran, digest(out));
 }
 

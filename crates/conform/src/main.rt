@@ -4,6 +4,7 @@ ghost use lib.ListN.{length};
 ghost use Rattle.conform.specs.Steps.{Within};
 
 mod acceptance_case;
+mod alternatives_case;
 mod cases;
 mod compile_case;
 mod milliseconds_case;
@@ -102,6 +103,12 @@ fn answer_sheet(
             acceptance_case::accept_table(sheet, &table[..length]);
             next(input, words, lent, length)
         }
+        15 => next(
+            alternatives_case::alternatives(buf, input, sheet),
+            words,
+            lent,
+            length,
+        ),
         _ => answer_table(
             buf,
             table,

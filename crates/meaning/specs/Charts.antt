@@ -28,6 +28,10 @@ absent e = 2 ∷ e ∷ []
 abbrev pub taken : ℕ → List ℕ
 taken t = 6 ∷ t ∷ []
 
+-- alternatives: the terms a, or the terms b
+abbrev pub either : List ℕ → List ℕ → List ℕ
+either a b = a ++ 7 ∷ 0 ∷ b
+
 -- "A record is source, target, then term pairs"
 abbrev pub transition : ℕ → ℕ → List ℕ → List ℕ
 transition source target terms = source ∷ target ∷ terms

@@ -17,7 +17,7 @@ use Rattle.meaning.specs.Within.{masksOf}
 use Rattle.meaning.specs.Milliseconds.{milliseconds}
 use Rattle.meaning.specs.Acceptance.{acceptRefusal}
 use Rattle.meaning.specs.NamedEvents.{names}
-use Rattle.meaning.specs.Charts.{atomic, serial, parallel, after, present, absent, taken, transition, sheetOf, rings, tableOf}
+use Rattle.meaning.specs.Charts.{atomic, serial, parallel, after, present, absent, taken, either, transition, sheetOf, rings, tableOf}
 use Rattle.meaning.specs.Opened.{opened}
 
 -- the whole example's sheet and table
@@ -145,6 +145,26 @@ outer-triggered =
     sheetOf 1 (parallel 0 ∷ serial 0 3 ∷ serial 0 5 ∷ atomic 1 ∷ atomic 1 ∷ serial 2 7 ∷ atomic 2 ∷ atomic 5 ∷ atomic 5 ∷ [])
     (transition 3 4 (present 0) ∷ transition 7 8 (present 0) ∷ transition 5 6 (taken 0) ∷ [])
 
+-- two regions: 3→4 once transition 1 is taken, or on event 0, or on event 1; 5→6 on event 0
+abbrev three-ways : List ℕ
+three-ways =
+    sheetOf 2 (parallel 0 ∷ serial 0 3 ∷ serial 0 5 ∷ atomic 1 ∷ atomic 1 ∷ atomic 2 ∷ atomic 2 ∷ [])
+    (transition 3 4 (either (taken 1) (either (present 0) (present 1))) ∷ transition 5 6 (present 0) ∷ [])
+
+-- mode 1 is parallel over 2 (3, 4) and 5 (6, 7), 8 is beside it: 3→4 once transition 1 is taken, or on event 0; 6→8 on event 0, to which
+-- 3→4 gives way; 8→7 once transition 1 is taken, which enters 3 again
+abbrev gives-way-first : List ℕ
+gives-way-first =
+    sheetOf 1 (serial 0 1 ∷ parallel 0 ∷ serial 1 3 ∷ atomic 2 ∷ atomic 2 ∷ serial 1 6 ∷ atomic 5 ∷ atomic 5 ∷ atomic 0 ∷ [])
+    (transition 3 4 (either (taken 1) (present 0)) ∷ transition 6 8 (present 0) ∷ transition 8 7 (taken 1) ∷ [])
+
+-- the numbers of one tick from power-on; the first of a tick's, and those after them 0
+abbrev first-numbers : List ℕ → ℕ → List ℕ
+first-numbers s i = sheetRun s powerOn (i ∷ []) (lent 5) (lent 64) .numbers
+
+abbrev two-numbers : ℕ → ℕ → List ℕ
+two-numbers a b = a ∷ b ∷ replicate 62 0
+
 -- modes 2 and 3 are never reached: 2→3 on event 0; or 2→1 and 2→3, both on event 0
 abbrev not-reached : List ℕ
 not-reached = sheetOf 1 three-modes (transition 2 3 (present 0) ∷ [])
@@ -195,6 +215,22 @@ pub record Examples : Type 0 where
   -- "input 1 at tick 3 gives 6 6 7 3 0"
   pub input-at-3 : tableRun table powerOn (0 ∷ 1 ∷ 0 ∷ 1 ∷ []) (lent 20) .out
       ≡ 3 ∷ 0 ∷ 3 ∷ 0 ∷ 0 ∷ 4 ∷ 2 ∷ 7 ∷ 1 ∷ 0 ∷ 0 ∷ 0 ∷ 5 ∷ 0 ∷ 0 ∷ 6 ∷ 6 ∷ 7 ∷ 3 ∷ 0 ∷ []
+  -- Ask 5: the numbers of these five ticks, with two to spare: 1 the alternative of transition 0, 9 the delay of transition 1
+  pub example-numbers : sheetRun sheet powerOn inputs (lent 25) (lent 322) .numbers
+      ≡ two-numbers 0 0 ++ (two-numbers 1 0 ++ (two-numbers 0 0 ++ (two-numbers 0 9 ++ (two-numbers 1 0 ++ lent 2))))
+  -- "the lowest if several do", in the round that took it: the first alternative holds a round later
+  pub second-way : first-numbers three-ways 1 ≡ two-numbers 2 1
+  pub third-way : first-numbers three-ways 2 ≡ two-numbers 3 0
+  pub lowest-way : first-numbers three-ways 3 ≡ two-numbers 2 1
+  -- gave way by the second alternative, and was taken by the first two rounds later
+  pub own-round : first-numbers gives-way-first 1 ≡ 1 ∷ 1 ∷ 1 ∷ replicate 61 0
+  -- "fewer than 64 per input set is 12": too few words, too few numbers; nothing is written
+  pub words-short : sheetRun sheet powerOn (1 ∷ 0 ∷ []) (lent 9) (lent 128)
+      ≡ record { run = record { done = 0; state = powerOn; refusal = 12; rounds = 0; out = lent 9 }; numbers = lent 128 }
+  pub numbers-short : sheetRun sheet powerOn (1 ∷ 0 ∷ []) (lent 10) (lent 127)
+      ≡ record { run = record { done = 0; state = powerOn; refusal = 12; rounds = 0; out = lent 10 }; numbers = lent 127 }
+  -- the numbers of a refused tick stay
+  pub refused-numbers : sheetRun sheet powerOn (1 ∷ 2 ∷ []) (lent 10) (lent 128) .numbers ≡ two-numbers 1 0 ++ lent 64
   -- Ask 4: our own table, "Blocks may be in another order than ours", not another sheet's; "no mask stands twice"
   pub own-accepted : acceptRefusal sheet table ≡ 0
   pub reordered-accepted : acceptRefusal sheet reordered ≡ 0
@@ -286,6 +322,14 @@ examples =
       sheet-run = refl;
       table-run = refl;
       input-at-3 = refl;
+      example-numbers = refl;
+      second-way = refl;
+      third-way = refl;
+      lowest-way = refl;
+      own-round = refl;
+      words-short = refl;
+      numbers-short = refl;
+      refused-numbers = refl;
       own-accepted = refl;
       reordered-accepted = refl;
       other-sheet = refl;

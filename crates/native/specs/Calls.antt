@@ -1,5 +1,5 @@
 -- What a call under a C name answers, and its lent words at exit. Assumes nothing.
-use mathlib.Core.Bool.{_||_, cond}
+use mathlib.Core.Bool.{Bool, _||_, cond}
 use mathlib.Core.List.{List, [], _∷_}
 use Prim.Native.Nat.{ℕ, _/_, _%_, _^_}
 use lib.Dec.{eqb, ltb}
@@ -45,19 +45,31 @@ pub record RunCall : Type 0 where
   pub out : List ℕ
   pub info : List ℕ
 
+-- fewer words lent than asked for: as many as the counts in info, 65 in the state
+unfoldable pub callShort : List ℕ → List ℕ → List ℕ → Bool
+callShort counts state info = ltb (length info) (length counts) || ltb (length state) 65
+
 -- a call that ran, puts its state into 65 words and its counts into info
 unfoldable pub runCall : Run → List ℕ → List ℕ → List ℕ → List ℕ → RunCall
 runCall o counts state out info =
     let nothing : RunCall = record { answer = 4294967295; state = state; out = out; info = info } in
     let done : RunCall =
     record { answer = o .refusal; state = overwritten (wordsOf (o .state)) state; out = o .out; info = overwritten counts info } in
-    cond (ltb (length info) (length counts) || ltb (length state) 65) nothing done
+    cond (callShort counts state info) nothing done
 
 -- the counts of a sheet run: ticks done, the total of rounds as whole times 2^32 and the rest; of a table run: ticks done
-unfoldable pub sheetCall : List ℕ → List ℕ → List ℕ → List ℕ → List ℕ → RunCall
-sheetCall sheet state inputs out info =
-    let o = sheetRun sheet (stateIn state) inputs out in
-    runCall o (o .done ∷ o .rounds / 2 ^ 32 ∷ o .rounds % 2 ^ 32 ∷ []) state out info
+unfoldable pub sheetCounts : Run → List ℕ
+sheetCounts o = o .done ∷ o .rounds / 2 ^ 32 ∷ o .rounds % 2 ^ 32 ∷ []
+
+pub record SheetCall : Type 0 where
+  pub call : RunCall
+  pub numbers : List ℕ
+
+unfoldable pub sheetCall : List ℕ → List ℕ → List ℕ → List ℕ → List ℕ → List ℕ → SheetCall
+sheetCall sheet state inputs out numbers info =
+    let o = sheetRun sheet (stateIn state) inputs out numbers in
+    let counts = sheetCounts (o .run) in
+    record { call = runCall (o .run) counts state out info; numbers = cond (callShort counts state info) numbers (o .numbers) }
 
 unfoldable pub tableCall : List ℕ → List ℕ → List ℕ → List ℕ → List ℕ → RunCall
 tableCall table state inputs out info =

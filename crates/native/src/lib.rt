@@ -105,22 +105,27 @@ pub extern "C" fn modechart_milliseconds(tick: u32, delays: &[u32], results: &mu
     number(milliseconds::in_ticks(tick, delays, results))
 }
 
-// info: ticks done, the total of rounds (whole times 2^32, and the rest).
+// numbers: 64 bytes for each input set. info: ticks done, the total of rounds (whole times 2^32, and the rest).
 #[no_mangle]
 pub extern "C" fn modechart_sheet_run(
     sheet: &[u32],
     state: &mut [u32],
     inputs: &[u32],
     out: &mut [u32],
+    numbers: &mut [u8],
     info: &mut [u64],
 ) -> u32
-    ensures { λ r. ⌜ record { answer = r; state = now (state .exit); out = now (out .exit); info = now (info .exit) }
-        ≡ sheetCall (now (sheet .entry)) (now (state .entry)) (now (inputs .entry)) (now (out .entry)) (now (info .entry)) ⌝ }
+    ensures { λ r. ⌜ record {
+      call = record { answer = r; state = now (state .exit); out = now (out .exit); info = now (info .exit) };
+      numbers = now (numbers .exit);
+    }
+        ≡ sheetCall (now (sheet .entry)) (now (state .entry)) (now (inputs .entry)) (now (out .entry)) (now (numbers .entry))
+        (now (info .entry)) ⌝ }
 {
     if info.len() < 3 || state.len() < STATE_WORDS {
         return NOTHING_DONE;
     }
-    let ran = simulator::sheet_run::run(sheet, from_words(state), inputs, out);
+    let ran = simulator::sheet_run::run(sheet, from_words(state), inputs, out, numbers);
     let why = ran.refusal;
     info[0] = ran.done.0 as u64;
     info[1] = ran.rounds.0;
