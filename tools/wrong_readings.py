@@ -56,7 +56,6 @@ CHECKED = "the check has refused every other kind"
 BEGIN = "react(chart, modes, readings, given, entered, exited, active, taken, edition)"
 EQUAL = "two eligible ones in conflict have equal meeting modes (ConflictIsEqual)"
 CONFLICT = "ma == mb or chart.contains(ma, mb) or chart.contains(mb, ma)"
-ROUND = "Round(triggered, gave_way, eligible)"
 FIRST = "masks[0] != 0 or timers_of(table, 0)"
 FORCED = {
     ORDERED: [
@@ -105,12 +104,9 @@ FORCED = {
         ("Chart.consistent", "m != 0", "m != 1"), ("Chart.consistent", "m != 0", "m != -1")],
     "a set without the root lacks a member's parent, or is 0; then the state is fresh or has a reading too many": [
         ("Chart.consistent", "0 not in modes", "False")],
-    "it is asked only whether an alternative holds, whether one gives way, and how many rounds there are": [
-        ("alternative_that_holds", "enumerate(tr.alternatives(), 1)", "enumerate(tr.alternatives(), 2)"),
+    "it is asked only whether one gives way": [
         ("react", "[u for u in triggered if gives_way(chart, t, u, edition)]",
-         "[t for u in triggered if gives_way(chart, t, u, edition)]"),
-        ("react", ROUND, "Round(eligible, gave_way, eligible)"),
-        ("react", ROUND, "Round(triggered, gave_way, triggered)")],
+         "[t for u in triggered if gives_way(chart, t, u, edition)]")],
     "as the rounds begin, active is the current modes": [
         ("tick", BEGIN, BEGIN.replace("modes", "active")), ("tick", BEGIN, BEGIN.replace("active", "modes"))],
     "of the triggered one with the highest meeting mode does not give way": [
@@ -191,9 +187,9 @@ def cases():
         case, start = numbers[at], at
         if case in (1, 24):
             at += 2 + numbers[at + 1]
-        elif case in (2, 4):
+        elif case in (2, 4, 15):
             at += 3 + 2 * numbers[at + 2]
-            at += 2 + numbers[at]
+            at += (3 if case == 15 else 2) + numbers[at]
         elif case == 17:
             at += 4 + numbers[at + 2]
         else:
