@@ -8,6 +8,7 @@ pub mod Completion
 pub mod Fuel
 pub mod GivesWayLaws
 pub mod TickLaws
+pub mod RoundListLaws
 pub mod Consistency
 pub mod NamedLaws
 pub mod AnyOrder
