@@ -11,6 +11,7 @@ pub mod TickLaws
 pub mod RoundListLaws
 pub mod Consistency
 pub mod NamedLaws
+pub mod AlternativeLaws
 pub mod AnyOrder
 pub mod StayTriggered
 pub mod ReadingLaws
