@@ -8,8 +8,10 @@ pub mod Completion
 pub mod Fuel
 pub mod GivesWayLaws
 pub mod TickLaws
+pub mod RoundListLaws
 pub mod Consistency
 pub mod NamedLaws
+pub mod AlternativeLaws
 pub mod AnyOrder
 pub mod StayTriggered
 pub mod ReadingLaws

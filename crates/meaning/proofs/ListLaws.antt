@@ -7,8 +7,8 @@ use Prim.Native.Nat.{ℕ, zero, suc, _+_, _-_, _*_, _≤_, _<_, zero-le}
 use native.Mathlib.Nat.{le-refl, le-trans, le-of-eq, not-suc-le-zero, le-of-suc-le-suc, eq-or-lt-of-le, add-zero, zero-add, mul-zero, mul-suc}
 use native.Mathlib.Omega.{arith}
 use lib.Dec.{T, eqb, eqb→eq, eqb-refl, ltb, lt→ltb}
-use lib.ListN.{length, getD, length-append, take, drop}
-use lib.Seq.{ext-getD, take-at, drop-at, drop-drop}
+use lib.ListN.{length, getD, length-append, take, drop, List·getD-append}
+use lib.Seq.{ext-getD, take-at, drop-at, drop-drop, getD-append-add}
 use Rattle.sets.specs.Sets.{has, unionOf}
 use Rattle.sets.proofs.Unions.{unionOf-e, unionOf-i}
 use Rattle.sets.proofs.Tests.{and-l, and-r, and-i, or-e, or-l, or-r, below-or-not}
@@ -168,6 +168,13 @@ rowFrom-getD {A} l a =
 -- the end of a loop that fills an array word by word with f 0, f 1, ..
 pub row-done : (f : ℕ → ℕ) (r : List ℕ) (w : ℕ) → length r ≡ w → ((u : ℕ) → u < w → getD r u 0 ≡ f u) → r ≡ rowFrom 0 w f
 row-done f r w n h = rw n at (rowFrom-getD r 0) ∙ rowFrom-ext (λ u. getD r u 0) f 0 w (λ u a b. h u (omega arith))
+
+-- places in blocks of w words each: of the first block, and of those after it
+pub block-first : (w : ℕ) (a b : List ℕ) (j : ℕ) → length a ≡ w → j < w → getD (a ++ b) (w * 0 + j) 0 ≡ getD a j 0
+block-first w a b j n l = rw (mul-zero w, zero-add j) (List·getD-append a b 0 j (omega arith))
+
+pub block-later : (w : ℕ) (a b : List ℕ) (p j : ℕ) → length a ≡ w → getD (a ++ b) (w * suc p + j) 0 ≡ getD b (w * p + j) 0
+block-later w a b p j n = let e : w * suc p + j ≡ length a + (w * p + j) = omega (arith, mul-suc w p) in rw e (getD-append-add a b (w * p + j) 0)
 
 -- what two lists share from g on they share from any later place on
 pub drop-later : (l l′ : List ℕ) (g h : ℕ) → g ≤ h → drop g l ≡ drop g l′ → drop h l ≡ drop h l′

@@ -14,14 +14,14 @@ use Rattle.sets.proofs.Tests.{is-true, is-false, and-l, and-r, and-i, cond-ext,
 use Rattle.sets.proofs.Membership.{has-none}
 use Rattle.sets.proofs.Facts.{every-e, every-i}
 use Rattle.sets.proofs.Those.{has-those}
-use Rattle.meaning.specs.Sheet.{tOf, recordLength, source, termCount, termKind, termValue}
-use Rattle.meaning.specs.Check.{pairOk, kindOk, termOk}
+use Rattle.meaning.specs.Sheet.{tOf, source, termCount, termKind, termValue}
+use Rattle.meaning.specs.Check.{kindOk, termOk}
 use Rattle.meaning.specs.Reaction.{TickSets, isDelay, delay, isTimer, running}
 use Rattle.meaning.specs.Tick.{tick}
 use Rattle.meaning.specs.Run.{State, reading, powerOn, dueTimers, nextReadings, nextState, readingsOk}
 use Rattle.meaning.specs.SheetRun.{tickFrom, stateAfter}
-use Rattle.meaning.proofs.ListLaws.{row-at, allOf-e, rowFrom-ext}
-use Rattle.meaning.proofs.SheetLaws.{Sound, t-le}
+use Rattle.meaning.proofs.ListLaws.{row-at, rowFrom-ext}
+use Rattle.meaning.proofs.SheetLaws.{Sound, t-le, terms-pos}
 use Rattle.meaning.proofs.TickLaws.{stayed-or-entered, not-due, Runs, running-e, running-i}
 
 -- the reading of t after a tick
@@ -88,10 +88,6 @@ delay-pos s t h = ltb→lt 0 (delay s t) (and-r (isDelay s t) (ltb 0 (delay s t)
 
 -- and at most 65,535
 module _ (s : List ℕ) (sd : Sound s) where
-  has-term : (t : ℕ) → t < tOf s → 0 < termCount s t
-  unfolding termCount pairOk
-  has-term t l = let h = leb→le 4 (recordLength s t) (allOf-e _ (sd .pairs t l) .1 .1 .0) in omega arith
-
   first-term : (t : ℕ) → T (termOk s t 0) → termKind s t 0 ≡ 0 → termValue s t 0 ≤ 65535
   unfolding termOk kindOk
   first-term t h z = leb→le (termValue s t 0) 65535 (and-r (eqb (termCount s t) 1) (leb (termValue s t 0) 65535) (rw z at h))
@@ -100,7 +96,7 @@ module _ (s : List ℕ) (sd : Sound s) where
   unfolding isTimer isDelay delay
   delay-small t l h =
       let z = eqb→eq (termKind s t 0) 0 (and-l (isDelay s t) (ltb 0 (delay s t)) h) in
-      omega (arith, first-term t (sd .terms t l 0 (has-term t l)) z)
+      omega (arith, first-term t (sd .terms t l 0 (terms-pos s sd t l)) z)
 
 module _ (s : List ℕ) where
   -- every running reading is 1 to its delay

@@ -1,18 +1,18 @@
 -- What a sheet's mode rows say of parents, and what a sheet that is refused by none of 1 to 6 satisfies. Assumes nothing.
 use mathlib.Core.Path.{_≡_, ap, _∙_}
 use mathlib.Core.Logic.{_⊎_, inl, inr}
-use mathlib.Core.Bool.{Bool, false, not}
+use mathlib.Core.Bool.{Bool, true, false, not, _&&_}
 use mathlib.Core.List.{List, [], _∷_}
 use Prim.Native.Nat.{ℕ, suc, _≤_, _<_, zero-le}
 use native.Mathlib.Nat.{le-trans, le-of-eq, le-of-lt, lt-of-le-of-lt, eq-zero-or-pos}
 use native.Mathlib.Omega.{arith}
 use lib.Dec.{T, eqb, ltb, eqb→eq, ltb→lt, leb→le}
 use lib.ListN.{length}
-use borrow.Author.Tests.{not-true, not-false, eq-eqb, ne-eqb}
+use borrow.Author.Tests.{not-true, not-false, eqb-true, eq-eqb, ne-eqb}
 use Rattle.sets.specs.Sets.{every}
 use Rattle.sets.proofs.Tests.{is-true, of-true, and-l, and-r, above-not}
 use Rattle.sets.proofs.Facts.{every-e}
-use Rattle.meaning.specs.Sheet.{nOf, kOf, tOf, kind, parent, first, isChild, source, target, endBefore, termCount, contains}
+use Rattle.meaning.specs.Sheet.{nOf, kOf, tOf, kind, parent, first, isChild, source, target, recordLength, endBefore, termCount, termKind, termValue, contains}
 use Rattle.meaning.specs.Check.{headOk, modeOk, modesOk, pairOk, pairsOk, endOk, endsOk, kindOk, termOk, termsOk, distinctOk, sheetRefusal}
 use Rattle.meaning.proofs.ListLaws.{allOf-e, firstOf-off, firstOf-le}
 
@@ -121,6 +121,36 @@ module _ (s : List ℕ) (h : Sound s) where
   ends-apart t l =
       let e = allOf-e _ (h .ends t l) .1 .1 in
       (not-true _ (is-true _ (e .0)), not-true _ (is-true _ (e .1 .0)))
+
+  -- 1 to 16 terms
+  pub terms-pos : (t : ℕ) → t < tOf s → 0 < termCount s t
+  unfolding pairOk termCount
+  terms-pos t l = let k = leb→le 4 (recordLength s t) (allOf-e _ (h .pairs t l) .1 .1 .0) in omega arith
+
+  pub terms-le : (t : ℕ) → t < tOf s → termCount s t ≤ 16
+  unfolding pairOk termCount
+  terms-le t l = let k = leb→le (recordLength s t) 34 (allOf-e _ (h .pairs t l) .1 .1 .1 .0) in omega arith
+
+-- an "or" is never first or last, and none follows it
+pub record OrApart (s : List ℕ) (t j : ℕ) : Type 0 where
+  pub not-first : 0 < j
+  pub not-last : suc j < termCount s t
+  pub none-next : eqb (termKind s t (suc j)) 7 ≡ false
+
+pub or-apart : (s : List ℕ) (t j : ℕ) → T (termOk s t j) → eqb (termKind s t j) 7 ≡ true → OrApart s t j
+unfolding termOk kindOk
+or-apart s t j h e =
+    let k = rw (eqb-true (termKind s t j) 7 e) at h in
+    let value = eqb (termValue s t j) 0 in
+    let later = ltb 0 j in
+    let more = ltb (suc j) (termCount s t) in
+    let alone = not (eqb (termKind s t (suc j)) 7) in
+    let m = and-l (value && later && more) alone k in
+    record {
+      not-first = ltb→lt 0 j (and-r value later (and-l (value && later) more m));
+      not-last = ltb→lt (suc j) (termCount s t) (and-r (value && later) more m);
+      none-next = not-true _ (is-true _ (and-r (value && later && more) alone k));
+    }
 
 -- there is no kind of term above 7
 pub kind-none : (s : List ℕ) (t j c : ℕ) → 7 < c → kindOk s t j c ≡ false

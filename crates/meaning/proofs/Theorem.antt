@@ -20,6 +20,9 @@ use Rattle.meaning.proofs.NamedLaws.{named-events}
 use Rattle.meaning.proofs.WithinLaws.{mask-exact, mask-no-other, conflict-by-mask, gives-way-by-mask}
 use Rattle.meaning.proofs.MillisecondsLaws.{whole-delay, rest-below, ticks-fit}
 use Rattle.meaning.proofs.NoIdleArrows.{idle-refused, refused-idle, idle-leaves, every-arrow-taken}
+use Rattle.meaning.proofs.RoundListLaws.{rounds-listed}
+use Rattle.meaning.proofs.AlternativeLaws.{fired-taken, fired-range}
+use Rattle.meaning.proofs.NumberLaws.{numbers-taken}
 use Rattle.meaning.proofs.SheetLaws.{sound}
 use Rattle.meaning.proofs.CompiledLaws.{compiled-accepted-from}
 
@@ -77,4 +80,8 @@ promised =
       refusedIdle = refused-idle;
       idleLeaves = idle-leaves;
       everyArrowTaken = every-arrow-taken;
+      roundsListed = rounds-listed;
+      firedTaken = fired-taken;
+      firedRange = fired-range;
+      numbersTaken = numbers-taken;
     }

@@ -14,6 +14,7 @@ use Rattle.meaning.specs.Check.{sheetRefusal}
 use Rattle.meaning.specs.Hierarchy.{consistent, completedIn, childIn}
 use Rattle.meaning.specs.Reaction.{ambiguous}
 use Rattle.meaning.specs.Tick.{begin, roundsFrom, tick}
+use Rattle.meaning.specs.RoundList.{RoundsListed}
 use Rattle.meaning.specs.Run.{State}
 use Rattle.meaning.specs.SheetRun.{stateOk, tickFrom, stateAfter, sheetStep, sheetTicks, sheetRun}
 use Rattle.meaning.specs.TickInWords.{timedTick, timedState}
@@ -25,6 +26,7 @@ use Rattle.meaning.specs.NamedEvents.{NamedEvents}
 use Rattle.meaning.specs.Within.{MaskExact, MaskNoOther, ConflictByMask, GivesWayByMask}
 use Rattle.meaning.specs.Milliseconds.{WholeDelay, RestBelow, TicksFit}
 use Rattle.meaning.specs.NoIdleArrows.{IdleRefused, RefusedIdle, IdleLeaves, EveryArrowTaken}
+use Rattle.meaning.specs.FiredAlternatives.{FiredTaken, FiredRange, NumbersTaken}
 
 -- a tick from power-on or from a consistent set leaves a consistent set
 unfoldable pub KeepsConsistent : Type 0
@@ -133,3 +135,7 @@ pub record Promised : Type 0 where
   pub refusedIdle : RefusedIdle
   pub idleLeaves : IdleLeaves
   pub everyArrowTaken : EveryArrowTaken
+  pub roundsListed : RoundsListed
+  pub firedTaken : FiredTaken
+  pub firedRange : FiredRange
+  pub numbersTaken : NumbersTaken
