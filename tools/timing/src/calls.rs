@@ -1,6 +1,6 @@
 // The operations of an archive of the crate `native`, under the names that it gives them.
 macro_rules! calls {
-    ($compile:literal, $table_run:literal, $sheet_run:literal) => {
+    ($compile:literal, $table_run:literal) => {
         extern "C" {
             #[link_name = $compile]
             fn native_compile(
@@ -15,15 +15,6 @@ macro_rules! calls {
                 state: *mut u32, state_len: usize,
                 inputs: *const u32, inputs_len: usize,
                 out: *mut u32, out_len: usize,
-                info: *mut u64, info_len: usize,
-            ) -> u32;
-            #[link_name = $sheet_run]
-            fn native_sheet_run(
-                sheet: *const u32, sheet_len: usize,
-                state: *mut u32, state_len: usize,
-                inputs: *const u32, inputs_len: usize,
-                out: *mut u32, out_len: usize,
-                numbers: *mut u8, numbers_len: usize,
                 info: *mut u64, info_len: usize,
             ) -> u32;
         }
@@ -56,6 +47,23 @@ macro_rules! calls {
             };
             (refusal, info[0] as usize)
         }
+    };
+}
+
+// The sheet run, which names the alternatives that fired.
+macro_rules! sheet_calls {
+    ($sheet_run:literal) => {
+        extern "C" {
+            #[link_name = $sheet_run]
+            fn native_sheet_run(
+                sheet: *const u32, sheet_len: usize,
+                state: *mut u32, state_len: usize,
+                inputs: *const u32, inputs_len: usize,
+                out: *mut u32, out_len: usize,
+                numbers: *mut u8, numbers_len: usize,
+                info: *mut u64, info_len: usize,
+            ) -> u32;
+        }
 
         pub fn sheet_run(sheet: &[u32], inputs: &[u32], out: &mut [u32], numbers: &mut [u8]) -> (u32, usize) {
             let (mut state, mut info) = ([0u32; 65], [0u64; 3]);
@@ -73,4 +81,4 @@ macro_rules! calls {
         }
     };
 }
-pub(crate) use calls;
+pub(crate) use {calls, sheet_calls};
