@@ -7,3 +7,4 @@ pub mod NextLaws
 pub mod EarlyLaws
 pub mod RoundLoop
 pub mod StartLaws
+pub mod FiredLaws
