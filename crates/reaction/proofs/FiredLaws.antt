@@ -87,7 +87,7 @@ module _ (s : List ℕ) where
         (λ t a c. fired-by (suc (tOf s)) due i (begin s (o .set)) t v (begin-consistent s (sound s h) (o .set) (o .known)))
 
 -- a row of zeros, by a rule
-row-zeros : (f : ℕ → ℕ) → ((t : ℕ) → f t ≡ 0) → (i w : ℕ) → rowFrom i w f ≡ zeros w
+pub row-zeros : (f : ℕ → ℕ) → ((t : ℕ) → f t ≡ 0) → (i w : ℕ) → rowFrom i w f ≡ zeros w
 unfolding rowFrom zeros
 row-zeros f e i zero = refl
 row-zeros f e i (suc w) = ap₂ _∷_ (e i) (row-zeros f e (suc i) w)

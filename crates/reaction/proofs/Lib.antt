@@ -8,3 +8,4 @@ pub mod EarlyLaws
 pub mod RoundLoop
 pub mod StartLaws
 pub mod FiredLaws
+pub mod FiredLoop
