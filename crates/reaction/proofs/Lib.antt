@@ -1,5 +1,6 @@
 pub mod PlanLaws
 pub mod TermLaws
+pub mod CauseLaws
 pub mod TriggerLaws
 pub mod RoundLaws
 pub mod AboutLaws
