@@ -34,26 +34,31 @@ use Rattle.reaction.proofs.RoundLaws.{clash, taken-again, eligible-smal
 use Rattle.reaction.proofs.RoundLoop.{eligible-none, all, Left, left-start, round-triggers, round-by}
 use Rattle.reaction.proofs.FiredLaws.{trigger-cause, row-zeros}
 
--- ---- a row laid over a list, and then a row made from its words
+-- ---- a row by the rule f laid over a list, and then another in its place
 
-module _ (l₀ : List ℕ) (at w : ℕ) (f : ℕ → ℕ) {l : List ℕ} (h : at + w ≤ length l₀) (e : l ≡ over l₀ at (rowFrom 0 w f)) where
+module _ (l₀ : List ℕ) (at w : ℕ) (f : ℕ → ℕ) (h : at + w ≤ length l₀) {l : List ℕ} (e : l ≡ over l₀ at (rowFrom 0 w f)) where
+  long : length (rowFrom 0 w f) ≡ w
+  long = rowFrom-length f 0 w
+
   fits : at + length (rowFrom 0 w f) ≤ length l₀
-  fits = omega (arith, rowFrom-length f 0 w, h)
+  fits = omega (arith, long, h)
 
   pub row-length : length l ≡ length l₀
   row-length = ap length e ∙ length-over l₀ at (rowFrom 0 w f) fits
 
   row-word : (t : ℕ) → t < w → getD l (at + t) 0 ≡ f t
-  row-word t k =
-      ap (λ (x : List ℕ). getD x (at + t) 0) e ∙ over-in l₀ at (rowFrom 0 w f) fits t (omega (arith, rowFrom-length f 0 w, k)) ∙ row-at w f t k
+  row-word t k = ap (λ (x : List ℕ). getD x (at + t) 0) e ∙ over-in l₀ at (rowFrom 0 w f) fits t (omega (arith, long)) ∙ row-at w f t k
 
-  pub row-again : (g : ℕ → ℕ) (c : ℕ → ℕ → ℕ) {m : List ℕ} → m ≡ over l at (rowFrom 0 w (λ t. c t (getD l (at + t) 0)))
-      → ((t : ℕ) → c t (f t) ≡ g t) → m ≡ over l₀ at (rowFrom 0 w g)
-  row-again g c p q =
+  pub row-again : (g : ℕ → ℕ) → over l at (rowFrom 0 w g) ≡ over l₀ at (rowFrom 0 w g)
+  row-again g = ap (λ (x : List ℕ). over x at (rowFrom 0 w g)) e ∙ over-again l₀ at (rowFrom 0 w f) fits (rowFrom 0 w g) (rowFrom-length g 0 w ∙ sym long)
+
+  -- made from the words of the first
+  row-from : (g : ℕ → ℕ) (c : ℕ → ℕ → ℕ) → ((t : ℕ) → c t (f t) ≡ g t) → {m : List ℕ} → m ≡ over l at (rowFrom 0 w (λ t. c t (getD l (at + t) 0)))
+      → m ≡ over l₀ at (rowFrom 0 w g)
+  row-from g c q p =
       p
       ∙ ap (over l at) (rowFrom-ext (λ t. c t (getD l (at + t) 0)) g 0 w (λ t a b. ap (c t) (row-word t (omega arith)) ∙ q t))
-      ∙ ap (λ (x : List ℕ). over x at (rowFrom 0 w g)) e
-      ∙ over-again l₀ at (rowFrom 0 w f) fits (rowFrom 0 w g) (rowFrom-length g 0 w ∙ sym (rowFrom-length f 0 w))
+      ∙ row-again g
 
 -- ---- one round, and what is left of the rounds
 
@@ -151,7 +156,7 @@ module _ (s : List ℕ) (i : ℕ) where
 
 module _ (s : List ℕ) (begun entered first i : ℕ) where
   -- the number of transition t in the tick
-  abbrev number : ℕ → ℕ
+  abbrev pub number : ℕ → ℕ
   number t = firedBy s (suc (tOf s)) i (setsOf begun (firstSets begun entered)) first t
 
   -- the numbers of the transitions taken so far, 0 for the others
@@ -166,8 +171,10 @@ module _ (s : List ℕ) (begun entered first i : ℕ) where
   pub numbered-start : entered < 2 ^ 32 → Begun s begun entered first i → Numbered (firstSets begun entered) first 0
   numbered-start b h = record { left = left-start s begun entered first i b h; later = λ t e. simp sub-zero }
 
-  pub numbered-none : rowFrom 0 64 (numbered (firstSets begun entered)) ≡ zeros 64
-  numbered-none = row-zeros (numbered (firstSets begun entered)) (λ t. ap (λ (b : Bool). cond b (number t) 0) (has-none t)) 0 64
+  -- none is taken yet
+  pub numbered-none : (l₀ : List ℕ) (at : ℕ) {l : List ℕ} → l ≡ over l₀ at (zeros 64) → l ≡ over l₀ at (rowFrom 0 64 (numbered (firstSets begun entered)))
+  numbered-none l₀ at e =
+      e ∙ ap (over l₀ at) (sym (row-zeros (numbered (firstSets begun entered)) (λ t. ap (λ (b : Bool). cond b (number t) 0) (has-none t)) 0 64))
 
 module _ {s : List ℕ} {begun entered first i : ℕ} {z : Sets} {ts r : ℕ} (n : Numbered s begun entered first i z ts r) where
   -- what is eligible has a cause
@@ -218,20 +225,26 @@ module _ {s : List ℕ} {begun entered first i : ℕ} {z : Sets} {ts r : ℕ} (n
           ∙ sym (goes .fired t) ∙ ap (λ (x : ℕ). firedBy s x i (setsOf begun z) ts t) (sym f) ∙ n .later t e
 
       -- the transitions of the round have their numbers too
-      pub round-numbered : {y : Sets} → y ≡ afterEnds z (o .moves .ends) es → (t : ℕ)
-          → cond (has es t) (cause s i (setsOf begun z) t) (numbered s begun entered first i z t) ≡ numbered s begun entered first i y t
-      round-numbered {y} e t =
-          go (has es t) (has (z .taken) t) refl refl ∙ ap (λ (b : Bool). cond b (number s begun entered first i t) 0) (sym taken-at)
+      round-numbered : (t : ℕ) → cond (has es t) (cause s i (setsOf begun z) t) (numbered s begun entered first i z t)
+          ≡ numbered s begun entered first i (afterEnds z (o .moves .ends) es) t
+      round-numbered t =
+          go (has es t) (has (z .taken) t) refl refl ∙ ap (λ (b : Bool). cond b (number s begun entered first i t) 0) (sym (has-union (z .taken) es t))
         where
-          taken-at : has (y .taken) t ≡ (has (z .taken) t || has es t)
-          taken-at = ap (λ (x : Sets). has (x .taken) t) e ∙ has-union (z .taken) es t
-
           go : (a b : Bool) → has es t ≡ a → has (z .taken) t ≡ b
               → cond a (cause s i (setsOf begun z) t) (cond b (number s begun entered first i t) 0) ≡ cond (b || a) (number s begun entered first i t) 0
           go false false p q = refl
           go false true p q = refl
           go true false p q = rw p at (fired-next t q)
           go true true p q = absurd (of-false fresh (meets-i es (z .taken) t (of-true p) (of-true q)))
+
+      pub round-laid : {y : Sets} → y ≡ afterEnds z (o .moves .ends) es → (l₀ : List ℕ) (at : ℕ) → at + 64 ≤ length l₀
+          → {l m : List ℕ} → l ≡ over l₀ at (rowFrom 0 64 (numbered s begun entered first i z))
+          → m ≡ over l at (rowFrom 0 64 (λ t. cond (has es t) (cause s i (setsOf begun z) t) (getD l (at + t) 0)))
+          → m ≡ over l₀ at (rowFrom 0 64 (numbered s begun entered first i y))
+      round-laid {y} e l₀ at h p q =
+          row-from l₀ at 64 (numbered s begun entered first i z) h p (numbered s begun entered first i (afterEnds z (o .moves .ends) es))
+          (λ t. cond (has es t) (cause s i (setsOf begun z) t)) round-numbered q
+          ∙ ap (λ (x : Sets). over l₀ at (rowFrom 0 64 (numbered s begun entered first i x))) (sym e)
 
       pub round-next : sheetRefusal s ≡ 0 → i < 2 ^ kOf s → {ts′ hits unsure : ℕ} {y : Sets} → hits ≡ hitsOf s i → unsure ≡ mixed s
           → y ≡ afterEnds z (o .moves .ends) es
@@ -275,7 +288,7 @@ module _ {s : List ℕ} {begun entered first i : ℕ} {z : Sets} {ts r : ℕ} (n
         go false true k = tt
         go false false k = k
 
-    pub last-numbered : (t : ℕ)
+    last-numbered : (t : ℕ)
         → cond (has last t) (cause s i (setsOf begun z) t) (numbered s begun entered first i z t) ≡ number s begun entered first i t
     last-numbered t =
         ap (λ (b : Bool). cond b (cause s i (setsOf begun z) t) (numbered s begun entered first i z t)) (last-has t) ∙ go (has (z .taken) t) refl
@@ -284,3 +297,10 @@ module _ {s : List ℕ} {begun entered first i : ℕ} {z : Sets} {ts r : ℕ} (n
             → cond ((a || has (final .es) t) && not a) (cause s i (setsOf begun z) t) (cond a (number s begun entered first i t) 0) ≡ number s begun entered first i t
         go true k = refl
         go false k = rw (and-true (has (final .es) t)) (sym (final .fired t) ∙ n .later t k)
+
+    pub last-laid : (l₀ : List ℕ) (at : ℕ) → at + 64 ≤ length l₀ → {l m : List ℕ} → l ≡ over l₀ at (rowFrom 0 64 (numbered s begun entered first i z))
+        → m ≡ over l at (rowFrom 0 64 (λ t. cond (has last t) (cause s i (setsOf begun z) t) (getD l (at + t) 0)))
+        → m ≡ over l₀ at (rowFrom 0 64 (number s begun entered first i))
+    last-laid l₀ at h p q =
+        row-from l₀ at 64 (numbered s begun entered first i z) h p (number s begun entered first i)
+        (λ t. cond (has last t) (cause s i (setsOf begun z) t)) last-numbered q
