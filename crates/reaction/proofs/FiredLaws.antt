@@ -1,5 +1,5 @@
 -- The alternatives by which the transitions of a tick are taken, from its triggered transitions on. Assumes nothing.
-use mathlib.Core.Path.{_≡_, refl, sym, ap, ap₂, _∙_}
+use mathlib.Core.Path.{_≡_, refl, sym, ap, _∙_}
 use mathlib.Core.Bool.{Bool, true, false, not, _||_, cond}
 use mathlib.Core.List.{List, [], _∷_}
 use Prim.Native.Nat.{ℕ, zero, suc, _^_, _<_}
@@ -24,6 +24,7 @@ use Rattle.meaning.proofs.Consistency.{begin-consistent, consistent-after}
 use Rattle.reaction.specs.Causes.{cause, firedBy}
 use Rattle.reaction.specs.Rounds.{Before}
 use Rattle.reaction.specs.declared.tick.Start.{Start}
+use Rattle.reaction.proofs.RowLaws.{row-zeros}
 use Rattle.reaction.proofs.NextLaws.{none-due-after}
 use Rattle.reaction.proofs.StartLaws.{startSets, start-sets}
 
@@ -85,12 +86,6 @@ module _ (s : List ℕ) where
         ∙ ap (λ (z : TickSets). rowFrom 0 64 (firedBy s (suc (tOf s)) i z (triggered s due i z))) (start-sets s (o .start))
         ∙ rowFrom-ext (firedBy s (suc (tOf s)) i (begin s (o .set)) (triggered s due i (begin s (o .set)))) (fired s (o .set) due i) 0 64
         (λ t a c. fired-by (suc (tOf s)) due i (begin s (o .set)) t v (begin-consistent s (sound s h) (o .set) (o .known)))
-
--- a row of zeros, by a rule
-pub row-zeros : (f : ℕ → ℕ) → ((t : ℕ) → f t ≡ 0) → (i w : ℕ) → rowFrom i w f ≡ zeros w
-unfolding rowFrom zeros
-row-zeros f e i zero = refl
-row-zeros f e i (suc w) = ap₂ _∷_ (e i) (row-zeros f e (suc i) w)
 
 -- a tick in which nothing is triggered takes no transition
 pub numbers-quiet : (s : List ℕ) (x d i : ℕ) → triggered s d i (begin s x) ≡ 0 → tickNumbers s x d i ≡ zeros 64

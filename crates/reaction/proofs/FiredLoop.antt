@@ -17,48 +17,21 @@ use Rattle.sets.proofs.Membership.{has-none, has-union, has-minus}
 use Rattle.sets.proofs.Facts.{union-l, union-r}
 use Rattle.sets.proofs.Quantifiers.{meets-i}
 use Rattle.rows.specs.Over.{over, zeros}
-use Rattle.rows.proofs.OverLaws.{length-over, over-in, over-again}
 use Rattle.meaning.specs.Lists.{rowFrom}
 use Rattle.meaning.specs.Sheet.{kOf, tOf, source}
 use Rattle.meaning.specs.Check.{sheetRefusal}
 use Rattle.meaning.specs.Reaction.{TickSets, alternative, triggered, eligible, ambiguous, restless, afterRound}
 use Rattle.meaning.specs.Tick.{Tick, chosen}
-use Rattle.meaning.proofs.ListLaws.{row-at, rowFrom-ext, rowFrom-length}
 use Rattle.meaning.proofs.TickLaws.{chosen-lt, chosen-triggered}
 use Rattle.reaction.specs.Plan.{hitsOf, mixed}
 use Rattle.reaction.specs.Causes.{cause, firedBy}
 use Rattle.reaction.specs.Rounds.{setsOf, firstSets, afterEnds, RoundOf, roundsBy, Begun}
 use Rattle.reaction.specs.declared.tick.Sets.{Sets}
 use Rattle.reaction.specs.declared.tick.Round.{Round}
+use Rattle.reaction.proofs.RowLaws.{row-zeros, row-from}
 use Rattle.reaction.proofs.RoundLaws.{clash, taken-again, eligible-small, after-ends}
 use Rattle.reaction.proofs.RoundLoop.{eligible-none, all, Left, left-start, round-triggers, round-by}
-use Rattle.reaction.proofs.FiredLaws.{trigger-cause, row-zeros}
-
--- ---- a row by the rule f laid over a list, and then another in its place
-
-module _ (l₀ : List ℕ) (at w : ℕ) (f : ℕ → ℕ) (h : at + w ≤ length l₀) {l : List ℕ} (e : l ≡ over l₀ at (rowFrom 0 w f)) where
-  long : length (rowFrom 0 w f) ≡ w
-  long = rowFrom-length f 0 w
-
-  fits : at + length (rowFrom 0 w f) ≤ length l₀
-  fits = omega (arith, long, h)
-
-  pub row-length : length l ≡ length l₀
-  row-length = ap length e ∙ length-over l₀ at (rowFrom 0 w f) fits
-
-  row-word : (t : ℕ) → t < w → getD l (at + t) 0 ≡ f t
-  row-word t k = ap (λ (x : List ℕ). getD x (at + t) 0) e ∙ over-in l₀ at (rowFrom 0 w f) fits t (omega (arith, long)) ∙ row-at w f t k
-
-  pub row-again : (g : ℕ → ℕ) → over l at (rowFrom 0 w g) ≡ over l₀ at (rowFrom 0 w g)
-  row-again g = ap (λ (x : List ℕ). over x at (rowFrom 0 w g)) e ∙ over-again l₀ at (rowFrom 0 w f) fits (rowFrom 0 w g) (rowFrom-length g 0 w ∙ sym long)
-
-  -- made from the words of the first
-  row-from : (g : ℕ → ℕ) (c : ℕ → ℕ → ℕ) → ((t : ℕ) → c t (f t) ≡ g t) → {m : List ℕ} → m ≡ over l at (rowFrom 0 w (λ t. c t (getD l (at + t) 0)))
-      → m ≡ over l₀ at (rowFrom 0 w g)
-  row-from g c q p =
-      p
-      ∙ ap (over l at) (rowFrom-ext (λ t. c t (getD l (at + t) 0)) g 0 w (λ t a b. ap (c t) (row-word t (omega arith)) ∙ q t))
-      ∙ row-again g
+use Rattle.reaction.proofs.FiredLaws.{trigger-cause}
 
 -- ---- one round, and what is left of the rounds
 
@@ -188,7 +161,7 @@ module _ {s : List ℕ} {begun entered first i : ℕ} {z : Sets} {ts r : ℕ} (n
 
   -- one more round is taken
   module _ (g : r < all s begun entered first i .rounds) where
-    pub within : r ≤ tOf s
+    within : r ≤ tOf s
     within =
         omega (arith, n .left .within, rounds-counted s i (suc (tOf s) - r) (setsOf begun z) ts r .1, ap (λ (o : Tick). o .rounds) (n .left .same))
 

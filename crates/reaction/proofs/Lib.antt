@@ -1,3 +1,4 @@
+pub mod RowLaws
 pub mod PlanLaws
 pub mod TermLaws
 pub mod CauseLaws

@@ -15,10 +15,11 @@ use Rattle.meaning.specs.Tick.{Tick}
 use Rattle.meaning.proofs.SheetLaws.{sound, t-le}
 use Rattle.reaction.specs.Plan.{hitsPart, hitsOf}
 use Rattle.reaction.specs.Rounds.{setsOf, firstSets}
+use Rattle.reaction.proofs.RowLaws.{row-length, row-again}
 use Rattle.reaction.proofs.RoundLaws.{triggered-small}
 use Rattle.reaction.proofs.RoundLoop.{all}
 use Rattle.reaction.proofs.TriggerLaws.{input-lt, mixed-asks}
-use Rattle.reaction.proofs.FiredLoop.{numbered, Numbered, numbered-start, numbered-none, row-length, row-again, round-asks, round-laid, round-next, last-asks, last-laid}
+use Rattle.reaction.proofs.FiredLoop.{numbered, Numbered, numbered-start, numbered-none, round-asks, round-laid, round-next, last-asks, last-laid}
 use Rattle.reaction.proofs.alternatives.put_numbers.Statement.{statement}
 use Rattle.reaction.proofs.alternatives.put_numbers.Tie as tie
 
