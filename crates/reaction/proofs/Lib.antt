@@ -1,3 +1,4 @@
+pub mod RowLaws
 pub mod PlanLaws
 pub mod TermLaws
 pub mod CauseLaws
@@ -8,3 +9,5 @@ pub mod NextLaws
 pub mod EarlyLaws
 pub mod RoundLoop
 pub mod StartLaws
+pub mod FiredLaws
+pub mod FiredLoop

@@ -6,7 +6,7 @@ use Prim.Native.Nat.{ℕ, _+_, _-_, _≤_, _<_}
 use native.Mathlib.Omega.{arith}
 use native.Mathlib.Nat.{zero-add, add-zero, add-assoc}
 use lib.ListN.{length, set, length-replicate, replicate-append-replicate, getD, List·getD-append, take, drop, length-append, length-drop, take-append-drop, drop-of-length-le}
-use lib.Seq.{sets, sets-eq, length-take-le, take-all, take-at, drop-append-add, drop-drop, take-set-le, drop-set-lt, getD-take, getD-drop, getD-append-add}
+use lib.Seq.{sets, sets-eq, length-take-le, take-all, take-at, take-append-le, drop-append-add, drop-drop, take-set-le, drop-set-lt, getD-take, getD-drop, getD-append-add}
 use borrow.Rule.Slice.PartMut.{putMid}
 use Rattle.rows.specs.Over.{over, zeros}
 
@@ -53,6 +53,18 @@ module _ (l : List ℕ) (at : ℕ) (vs : List ℕ) (h : at + length vs ≤ lengt
       let k : drop (n + length us) (over l at vs) ≡ drop (at + length (vs ++ us)) l =
       rw (e, length-append, ← add-assoc) (drop-over (length us)) in
       cc (over-def (over l at vs) n us, over-def l at (vs ++ us), take-over n e, append-assoc (take at l) vs us)
+
+  take-before : take at (over l at vs) ≡ take at l
+  unfolding over
+  take-before =
+      take-append-le at (take at l ++ vs) (drop (at + length vs) l) (omega (arith, head-length))
+      ∙ take-at (take at l) vs at (length-take-le at l (omega arith))
+
+  -- a row, and then another in its place
+  pub over-again : (us : List ℕ) → length us ≡ length vs → over (over l at vs) at us ≡ over l at us
+  over-again us e =
+      let back : drop (at + length us) (over l at vs) ≡ drop (at + length us) l = rw (e, ← add-zero (at + length vs)) (drop-over 0) in
+      cc (over-def (over l at vs) at us, over-def l at us, take-before, back)
 
   -- word i of the row, and a word that is not of the row
   pub over-in : (i : ℕ) → i < length vs → getD (over l at vs) (at + i) 0 ≡ getD vs i 0
