@@ -1,5 +1,4 @@
 // The case of the alternatives that fired: what it reads after its number, the call that it makes and the line that it writes.
-ghost use mathlib.Core.Path.{_≡_};
 use super::cases::digest;
 use super::cases::put_counts;
 use super::cases::put_state;

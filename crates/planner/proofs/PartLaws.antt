@@ -2,58 +2,19 @@
 -- Assumes nothing.
 use mathlib.Core.Path.{_≡_, refl, sym, ap, _∙_}
 use mathlib.Core.Logic.{_⊎_, inl, inr}
-use mathlib.Core.List.{List, [], _∷_, _++_}
+use mathlib.Core.List.{List, [], _∷_}
 use Prim.Native.Nat.{ℕ, _+_, _-_, _≤_, _<_}
 use native.Mathlib.Decide.{decLe, decLt}
 use native.Mathlib.Omega.{arith}
-use lib.ListN.{length, getD, set, take, drop, length-append, length-set, List·getD-append}
-use lib.Seq.{length-take-le, ext-getD, getD-take, getD-drop, getD-append-add, getD-set-same, getD-set-other}
+use lib.ListN.{length, getD, set, length-set}
+use lib.Seq.{ext-getD, getD-set-same, getD-set-other}
 use Rattle.sets.proofs.Loops.{set-word}
 use Rattle.rows.specs.Over.{over}
-use Rattle.rows.proofs.OverLaws.{length-over, over-nil, over-sets}
+use Rattle.rows.proofs.OverLaws.{length-over, over-nil, over-sets, over-in, over-out}
 use Rattle.meaning.specs.Lists.{rowFrom}
 use Rattle.meaning.proofs.ListLaws.{row-at, rowFrom-length}
+use Rattle.reaction.proofs.RowLaws.{row-again}
 use Rattle.planner.specs.Parts.{WordsAt}
-
--- ---- one word of a list with words laid over it
-
-module _ (l : List ℕ) (at : ℕ) (vs : List ℕ) (h : at + length vs ≤ length l) where
-  seam : length (take at l) ≡ at
-  seam = length-take-le at l (omega arith)
-
-  after-seam : length (take at l ++ vs) ≡ at + length vs
-  after-seam = omega (arith, length-append (take at l) vs, seam)
-
-  over-before : (i : ℕ) → i < at → getD (over l at vs) i 0 ≡ getD l i 0
-  unfolding over
-  over-before i k =
-      List·getD-append (take at l ++ vs) (drop (at + length vs) l) 0 i (omega (arith, after-seam))
-      ∙ List·getD-append (take at l) vs 0 i (omega (arith, seam))
-      ∙ getD-take at l i 0 k
-
-  over-in : (i : ℕ) → i < length vs → getD (over l at vs) (at + i) 0 ≡ getD vs i 0
-  unfolding over
-  over-in i k =
-      List·getD-append (take at l ++ vs) (drop (at + length vs) l) 0 (at + i) (omega (arith, after-seam))
-      ∙ ap (λ (n : ℕ). getD (take at l ++ vs) (n + i) 0) (sym seam)
-      ∙ getD-append-add (take at l) vs i 0
-
-  over-after : (i : ℕ) → getD (over l at vs) (at + length vs + i) 0 ≡ getD l (at + length vs + i) 0
-  unfolding over
-  over-after i =
-      ap (λ (n : ℕ). getD (take at l ++ vs ++ drop (at + length vs) l) (n + i) 0) (sym after-seam)
-      ∙ getD-append-add (take at l ++ vs) (drop (at + length vs) l) i 0
-      ∙ getD-drop (at + length vs) l i 0
-
-  over-out : (i : ℕ) → (at ≤ i → i < at + length vs → ⊥) → getD (over l at vs) i 0 ≡ getD l i 0
-  over-out i k = go (decLt i at) (decLt i (at + length vs))
-    where
-      go : Dec (i < at) → Dec (i < at + length vs) → getD (over l at vs) i 0 ≡ getD l i 0
-      go (yes b) e = over-before i b
-      go (no b) (yes e) = absurd (k (omega arith) e)
-      go (no b) (no e) =
-          let j : at + length vs + (i - (at + length vs)) ≡ i = omega arith in
-          rw j at (over-after (i - (at + length vs)))
 
 -- ---- a part: the row f 0, f 1, .. of w words at its place
 
@@ -70,7 +31,12 @@ module _ (l : List ℕ) (at w : ℕ) (f : ℕ → ℕ) (h : at + w ≤ length l)
       over-in l at (rowFrom 0 w f) fits t (omega (arith, rowFrom-length f 0 w)) ∙ row-at w f t k
 
   pub part-out : (i : ℕ) → (at ≤ i → i < at + w → ⊥) → getD (over l at (rowFrom 0 w f)) i 0 ≡ getD l i 0
-  part-out i k = over-out l at (rowFrom 0 w f) fits i (λ a b. k a (omega (arith, rowFrom-length f 0 w)))
+  part-out i k = over-out l at (rowFrom 0 w f) fits i (side (decLt i at) (decLt i (at + w)))
+    where
+      side : Dec (i < at) → Dec (i < at + w) → (i < at) ⊎ (at + length (rowFrom 0 w f) ≤ i)
+      side (yes b) e = inl b
+      side (no b) (yes e) = absurd (k (omega arith) e)
+      side (no b) (no e) = inr (omega (arith, rowFrom-length f 0 w))
 
   pub part-beside : (b v : ℕ) (g : ℕ → ℕ) → (b + v ≤ at) ⊎ (at + w ≤ b) → WordsAt l b v g → WordsAt (over l at (rowFrom 0 w f)) b v g
   part-beside b v g (inl k) p t a = part-out (b + t) (λ x y. omega arith) ∙ p t a
@@ -95,12 +61,7 @@ module _ (l : List ℕ) (at w : ℕ) (f : ℕ → ℕ) (h : at + w ≤ length l)
 
 -- a part laid over itself
 pub part-again : (l : List ℕ) (at w : ℕ) (f g : ℕ → ℕ) → at + w ≤ length l → over (over l at (rowFrom 0 w f)) at (rowFrom 0 w g) ≡ over l at (rowFrom 0 w g)
-part-again l at w f g h =
-    let m = over l at (rowFrom 0 w f) in
-    let long : length m ≡ length l = part-length l at w f h in
-    let k : at + w ≤ length m = omega arith in
-    part-is l at w g h (over m at (rowFrom 0 w g)) (part-length m at w g k ∙ long) (part-in m at w g k)
-    (λ i a. part-out m at w g k i a ∙ part-out l at w f h i a)
+part-again l at w f g h = row-again l at w f h refl g
 
 -- a loop that lays a part: its start, and one turn
 module _ (l : List ℕ) (at : ℕ) (f : ℕ → ℕ) where
