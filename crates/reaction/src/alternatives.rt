@@ -9,13 +9,12 @@ ghost use Rattle.rows.specs.Over.{over};
 ghost use Rattle.meaning.specs.Lists.{rowFrom};
 ghost use Rattle.meaning.specs.Sheet.{kOf, tOf};
 ghost use Rattle.meaning.specs.Check.{sheetRefusal};
-ghost use Rattle.meaning.specs.Refusal.{numberOf};
 ghost use Rattle.reaction.specs.Plan.{Planned};
 ghost use Rattle.reaction.specs.Rounds.{setsOf, tickOf, firstSets, roundsBy, Begun};
 ghost use Rattle.reaction.specs.Causes.{causeBy, cause, firedBy};
-use super::plan::HITS;
 use super::plan::MIXED;
 use super::plan::Plan;
+use super::plan::hits;
 use super::terms::alternative;
 use super::terms::facts;
 use super::terms::is_delay;
@@ -27,7 +26,6 @@ use super::tick::triggered;
 use rows::put_zeros;
 use sets::transitions;
 use sheet::words::term_count;
-use sheet::words::wide;
 
 // Why transition t, which is triggered, is: 9 for a delay, else the lowest alternative that holds. The terms are judged only where
 // there is more than one.
@@ -70,7 +68,7 @@ fn put_causes(
     }
 }
 
-// The 64 numbers of a tick that is done. Its rounds but the last are gone through once more; the last took what was not taken before.
+// The 64 numbers of a tick. Its rounds but the last are gone through once more; the last took what was not taken before.
 pub fn put_numbers(
     sheet: &[u32],
     plan: &Plan,
@@ -84,13 +82,12 @@ pub fn put_numbers(
 )
     requires { ⌜ Planned (now sheet) (now plan) × Begun (now sheet) begun entered first input × (input < 2 ^ kOf (now sheet))
         × (tickOf begun o ≡ roundsBy (now sheet) (suc (tOf (now sheet))) input (setsOf begun (firstSets begun entered)) first 0)
-        × (numberOf (o .refusal) ≡ 0)
         × (at + 64 ≤ length (now numbers)) ⌝ }
     ensures { λ _. ⌜ now (numbers .exit)
         ≡ over (now (numbers .entry)) at (rowFrom 0 64
         (firedBy (now (sheet .entry)) (suc (tOf (now (sheet .entry)))) input (setsOf begun (firstSets begun entered)) first)) ⌝ }
 {
-    let hits = plan[HITS + wide(input)];
+    let hits = hits(sheet, plan, input);
     let mixed = plan[MIXED];
     let mut z = Sets {
         modes: begun,

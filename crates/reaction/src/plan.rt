@@ -3,9 +3,11 @@ ghost use mathlib.Core.Path.{_≡_};
 ghost use Prim.Native.Nat.{_+_, _/_, _%_, _^_, _<_};
 ghost use lib.ListN.{getD};
 ghost use Rattle.meaning.specs.Lists.{rowFrom};
+ghost use Rattle.meaning.specs.Sheet.{kOf};
 ghost use Rattle.meaning.specs.Reaction.{running};
-ghost use Rattle.reaction.specs.Plan.{endsPart, planSize, Planned, sourcesIn, namedIn, timerDelay};
+ghost use Rattle.reaction.specs.Plan.{endsPart, planSize, Planned, hitsOf, sourcesIn, namedIn, timerDelay};
 use sets::transitions;
+use sheet::words::wide;
 
 // The parts: a word for each transition t, mode m or input set i.
 pub const ENDS: usize = 0; // t: the modes that t exits if they are active, and from bit 32 on those that it enters
@@ -52,6 +54,14 @@ pub fn entered_modes(plan: &Plan, t: usize) -> u32
     ensures { λ r. ⌜ r ≡ getD (now (plan .entry)) (endsPart + t) 0 / 2 ^ 32 ⌝ }
 {
     transitions::high(plan[ENDS + t])
+}
+
+// The transitions that an input set triggers by itself.
+pub fn hits(sheet: &[u32], plan: &Plan, input: u32) -> u64
+    requires { ⌜ Planned (now sheet) (now plan) × (input < 2 ^ kOf (now sheet)) ⌝ }
+    ensures { λ r. ⌜ r ≡ hitsOf (now (sheet .entry)) input ⌝ }
+{
+    plan[HITS + wide(input)]
 }
 
 // The transitions whose source is in a mode set.

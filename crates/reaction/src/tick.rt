@@ -14,13 +14,13 @@ ghost use Rattle.reaction.specs.Rounds.{setsOf, tickOf, endedSo, firstSe
 use super::plan::CONFLICTS;
 use super::plan::EARLY;
 use super::plan::ENDS;
-use super::plan::HITS;
 use super::plan::MIXED;
 use super::plan::NEXT;
 use super::plan::Plan;
 use super::plan::START;
 use super::plan::YIELDERS;
 use super::plan::from_set;
+use super::plan::hits;
 use super::plan::mode_set;
 use super::terms::facts;
 use super::terms::judged;
@@ -199,7 +199,7 @@ pub fn rounds(
         ≡ roundsBy (now (sheet .entry)) (suc (tOf (now (sheet .entry)))) input (setsOf begun (firstSets begun entered)) first 0 ⌝ }
 {
     let most = transition_count(sheet);
-    let hits = plan[HITS + wide(input)];
+    let hits = hits(sheet, plan, input);
     let mixed = plan[MIXED];
     let mut z = Sets {
         modes: begun,
@@ -259,7 +259,7 @@ pub fn first_triggered(sheet: &[u32], plan: &Plan, b: Start, due: u64, input: u3
     ensures { λ r. ⌜ r
         ≡ triggered (now (sheet .entry)) due input (setsOf (b .begun) (firstSets (b .begun) (b .entered))) ⌝ }
 {
-    let sure = b.live & (due | plan[HITS + wide(input)]);
+    let sure = b.live & (due | hits(sheet, plan, input));
     let z = Sets {
         modes: b.begun,
         entered: b.entered,
