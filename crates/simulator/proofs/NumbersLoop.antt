@@ -13,10 +13,11 @@ use Rattle.rows.proofs.OverLaws.{length-over, over-more, over-front}
 use Rattle.meaning.specs.Lists.{overwritten}
 use Rattle.meaning.specs.Alternatives.{numbersShort}
 use Rattle.meaning.specs.Run.{State, outputShort, Run}
-use Rattle.meaning.specs.SheetRun.{NumberedRun, sheetStep, numbersFrom, sheetNumbers, withNumbers}
+use Rattle.meaning.specs.SheetRun.{sheetStep, numbersFrom, sheetNumbers, withNumbers}
 use Rattle.meaning.proofs.NumberLaws.{stepped, stepped-none, stepped-next, numbers-from-length, numbers-next, numbers-length}
 use Rattle.run.proofs.LoopLaws.{output-short, output-room}
 
+-- over the front
 laid : (l vs : List ℕ) → overwritten vs l ≡ over l 0 vs
 unfolding overwritten
 laid l vs = sym (over-front l vs)
@@ -41,24 +42,23 @@ module _ (s inputs numbers₀ : List ℕ) (q₀ : State) where
     done = sheetNumbers s (take i inputs) q₀
 
     -- one tick more, with its row of numbers
-    pub written-next : i < length inputs → {row numbers′ : List ℕ} {q′ : State} → row ≡ numbersFrom s q input
-        → numbers′ ≡ over numbers (64 * i) row → q′ ≡ sheetStep s q input .state → Written numbers′ q′ (i + 1)
-    written-next l {row} re ne qe =
+    pub written-next : i < length inputs → {q′ : State} → q′ ≡ sheetStep s q input .state → Written (over numbers (64 * i) (numbersFrom s q input)) q′ (i + 1)
+    written-next l e =
+        let row = numbersFrom s q input in
         let n : length done ≡ 64 * i = numbers-length s (take i inputs) q₀ ∙ ap (λ (k : ℕ). 64 * k) (length-take-le i inputs (le-of-lt l)) in
-        let m : length row ≡ 64 = ap length re ∙ numbers-from-length s q input in
-        let long = ap length ne ∙ length-over numbers (64 * i) row (omega (arith, w .room)) in
+        let m : length row ≡ 64 = numbers-from-length s q input in
+        let long = length-over numbers (64 * i) row (omega (arith, w .room)) in
         let more : sheetNumbers s (take (i + 1) inputs) q₀ ≡ done ++ row =
-        numbers-next s inputs q₀ i l ∙ ap (λ (y : State). done ++ numbersFrom s y input) (w .at) ∙ ap (λ (r : List ℕ). done ++ r) (sym re) in
+        numbers-next s inputs q₀ i l ∙ ap (λ (y : State). done ++ numbersFrom s y input) (w .at) in
         record {
           room = omega (arith, w .room);
           same = long ∙ w .same;
           so-far =
-              ne
-              ∙ ap (λ (y : List ℕ). over y (64 * i) row) (w .so-far ∙ laid numbers₀ done)
+              ap (λ (y : List ℕ). over y (64 * i) row) (w .so-far ∙ laid numbers₀ done)
               ∙ over-more numbers₀ 0 done (omega (arith, w .room, w .same)) row (64 * i) (omega arith)
               ∙ sym (laid numbers₀ (done ++ row))
               ∙ ap (λ (r : List ℕ). overwritten r numbers₀) (sym more);
-          at = stepped-next s inputs q₀ i l ∙ ap (λ (y : State). sheetStep s y input .state) (w .at) ∙ sym qe;
+          at = stepped-next s inputs q₀ i l ∙ ap (λ (y : State). sheetStep s y input .state) (w .at) ∙ sym e;
         }
 
     -- a run that ends here
@@ -76,13 +76,16 @@ module _ (s inputs numbers₀ : List ℕ) (q₀ : State) where
 -- ---- one of the lent lists is too short, or none is
 
 module _ (inputs out numbers : List ℕ) where
-  pub numbers-short : length numbers / 64 < length inputs → (outputShort inputs out || numbersShort inputs numbers) ≡ true
-  unfolding numbersShort
-  numbers-short h = ap (λ (b : Bool). outputShort inputs out || b) (lt-ltb (length numbers) (64 * length inputs) (omega arith)) ∙ or-true (outputShort inputs out)
+  abbrev short : Bool
+  short = outputShort inputs out || numbersShort inputs numbers
 
-  pub either-short : length out / 5 < length inputs → (outputShort inputs out || numbersShort inputs numbers) ≡ true
-  either-short h = rw (output-short inputs out h)
+  pub short-output : length out / 5 < length inputs → short ≡ true
+  short-output h = rw (output-short inputs out h)
 
-  pub lists-room : 5 * length inputs ≤ length out → 64 * length inputs ≤ length numbers → (outputShort inputs out || numbersShort inputs numbers) ≡ false
+  pub short-numbers : length numbers / 64 < length inputs → short ≡ true
   unfolding numbersShort
-  lists-room a b = rw (output-room inputs out a, le-ltb (length numbers) (64 * length inputs) b)
+  short-numbers h = rw (lt-ltb (length numbers) (64 * length inputs) (omega arith)) (or-true (outputShort inputs out))
+
+  pub short-neither : 5 * length inputs ≤ length out → 64 * length inputs ≤ length numbers → short ≡ false
+  unfolding numbersShort
+  short-neither a b = rw (output-room inputs out a, le-ltb (length numbers) (64 * length inputs) b)

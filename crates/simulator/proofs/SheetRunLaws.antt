@@ -1,5 +1,5 @@
--- The sheet run by deadlines: what is left from here, in a mode set by the deadlines now, gives what all gives from the start.
--- Assumes nothing.
+-- The sheet run by deadlines: what is left from here, in a mode set by the deadlines now, gives what all gives from the start; the
+-- numbers so far. Assumes nothing.
 use mathlib.Core.Path.{_≡_, refl, sym, ap, _∙_, subst}
 use mathlib.Core.Logic.{_⊎_, inl, inr, ⊎-elim}
 use mathlib.Core.Bool.{Bool, true, false, _||_, cond, and-true}
@@ -167,7 +167,7 @@ module _ {s inputs out₀ numbers₀ : List ℕ} {q₀ : State} {out numbers end
             long = ap length ee ∙ rowFrom-length (λ t. cond (has set t) (i + 1 + getD delays t 0) (getD ends t 0)) 0 64;
             ahead = ahead;
           };
-          written = written-next s inputs numbers₀ q₀ (k .written) l refl refl next-state;
+          written = written-next s inputs numbers₀ q₀ (k .written) l next-state;
           sound = k .sound;
           sources = refl;
           known = unfold tickFrom in (inr (keeps-consistent s (k .sound) x _ input (k .known)));
@@ -232,15 +232,15 @@ module _ {s inputs out₀ numbers₀ : List ℕ} {q₀ : State} {out numbers end
       unfolding numbersFrom
       numbers-now = ap (λ (y : ℕ). tickNumbers s x y input) due-is
 
-      module _ (n : r .refusal ≡ 0) {live′ total′ : ℕ} {out′ numbers′ : List ℕ} (oe : out′ ≡ over out (5 * i) (fiveWords (r .sets)))
-          (ne : numbers′ ≡ over numbers (64 * i) (tickNumbers s x d input)) (le : live′ ≡ sourcesIn s (r .sets .modes)) (tt : total′ ≡ total + r .rounds) where
+      module _ (n : r .refusal ≡ 0) {live′ total′ : ℕ} {out′ five numbers′ row : List ℕ} (oe : out′ ≡ over out (5 * i) five) (fe : five ≡ fiveWords (r .sets))
+          (ne : numbers′ ≡ over numbers (64 * i) row) (we : row ≡ tickNumbers s x d input) (le : live′ ≡ sourcesIn s (r .sets .modes)) (tt : total′ ≡ total + r .rounds) where
         -- the deadlines of the timers that start are set
         pub next-turn : {set : ℕ} {delays ends′ : List ℕ} → set ≡ meet (sourcesIn s (r .sets .entered)) (running s (r .sets .modes))
             → delays ≡ rowFrom 0 64 (timerDelay s) → ends′ ≡ rowFrom 0 64 (λ t. cond (has set t) (i + 1 + getD delays t 0) (getD ends t 0))
             → {soon′ : ℕ} → ((t : ℕ) → T (has (running s (r .sets .modes)) t) → i + 1 < getD ends′ t 0 → soon′ ≤ getD ends′ t 0)
             → ReachedModes s inputs out₀ numbers₀ q₀ out′ numbers′ ends′ (r .sets .modes) live′ soon′ total′ (i + 1)
         next-turn se ye ee later =
-            rw (oe, ne, numbers-now, le, tt, tick-now)
+            rw (oe, fe, ne, we, numbers-now, le, tt, tick-now)
             (next-modes (sym (ap (λ (y : Tick). y .refusal) tick-now) ∙ n) (rw tick-now at se) ye ee l b (rw tick-now at later))
 
     -- nothing is triggered in it: the modes and the deadlines stay, and none of those that run was due
@@ -253,7 +253,7 @@ module _ {s inputs out₀ numbers₀ : List ℕ} {q₀ : State} {out numbers end
     next-quiet l b st e z n {soon′} later oe ne =
         next-turn l b
         (ap (λ (y : TickSets). record { refusal = 0; sets = y; rounds = 0 }) (begins s x n) ∙ sym (tick-quiet s x d input none-first))
-        refl oe (ne ∙ ap (over numbers (64 * i)) (sym (numbers-quiet s x d input none-first))) (k .sources) (sym (add-zero total)) refl refl same stays
+        refl oe refl ne (sym (numbers-quiet s x d input none-first)) (k .sources) (sym (add-zero total)) refl refl same stays
       where
         none-first : triggered s d input (begin s x) ≡ 0
         none-first = sym (ap (triggered s d input) (start-sets s st)) ∙ sym e ∙ z
