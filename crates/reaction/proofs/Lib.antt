@@ -1,5 +1,7 @@
+pub mod RowLaws
 pub mod PlanLaws
 pub mod TermLaws
+pub mod CauseLaws
 pub mod TriggerLaws
 pub mod RoundLaws
 pub mod AboutLaws
@@ -7,3 +9,5 @@ pub mod NextLaws
 pub mod EarlyLaws
 pub mod RoundLoop
 pub mod StartLaws
+pub mod FiredLaws
+pub mod FiredLoop

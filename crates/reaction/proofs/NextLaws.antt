@@ -212,7 +212,7 @@ module _ (s : List ℕ) (h : sheetRefusal s ≡ 0) (d d′ i : ℕ) (z : TickSet
 
 module _ (s : List ℕ) (h : sheetRefusal s ≡ 0) where
   -- after a round no timer is due that was due before
-  none-due-after : (d i : ℕ) (z : TickSets) → i < 2 ^ kOf s → T (consistent s (z .modes))
+  pub none-due-after : (d i : ℕ) (z : TickSets) → i < 2 ^ kOf s → T (consistent s (z .modes))
       → triggered s 0 i (afterRound s z (chosen s d i z)) ≡ triggered s d i (afterRound s z (chosen s d i z))
   none-due-after d i z b con =
       next-triggered s h d 0 i z b con (λ t k. absurd (of-false (has-none t) k)) ∙ sym (next-triggered s h d d i z b con (λ t k. k))

@@ -34,11 +34,11 @@ use Rattle.reaction.proofs.RoundLaws.{eligible-small, clash, taken-agai
 use Rattle.reaction.proofs.NextLaws.{next-triggered}
 
 -- nothing is eligible of nothing
-eligible-none : (s : List ℕ) → eligible s 0 ≡ 0
+pub eligible-none : (s : List ℕ) → eligible s 0 ≡ 0
 eligible-none s = same-members (λ t. is-false (has (eligible s 0) t) (λ k. of-false (has-none t) (eligible-among s 0 t k)) ∙ sym (has-none t))
 
 module _ (s : List ℕ) (begun entered first i : ℕ) where
-  abbrev all : Tick
+  abbrev pub all : Tick
   all = roundsBy s (suc (tOf s)) i (setsOf begun (firstSets begun entered)) first 0
 
   -- after r rounds, with the sets z and the triggered transitions ts
@@ -177,12 +177,18 @@ module _ {s : List ℕ} {begun entered first i : ℕ} {z : Sets} {ts r : ℕ} (l
             entering-lt = unfold entering in (setOf-lt (nOf s) _)
 
         -- by the words of the plan, and the sets as they were computed
-        pub round-by : {ts′ hits unsure : ℕ} {y : Sets} → hits ≡ hitsOf s i → unsure ≡ mixed s → y ≡ z′
-            → ts′ ≡ union (meet (o .moves .next) hits) (those 64 (meet (o .moves .next) unsure) (λ t.
-            has (y .modes) (source s t) && ltb 0 (alternative s i (setsOf begun y) t)))
-            → Left s begun entered first i y ts′ (r + 1)
-        round-by {ts′} {hits} {unsure} {y} a m e g =
-            subst (λ (x : Sets). Left s begun entered first i x ts′ (r + 1)) (sym e)
-            (round-taken (g ∙ ap₂ (λ (p q : ℕ). union (meet (o .moves .next) p) (those 64 (meet (o .moves .next) q) (λ t.
-            has (y .modes) (source s t) && ltb 0 (alternative s i (setsOf begun y) t)))) a m
-            ∙ ap (λ (x : Sets). by (o .moves .next) (setsOf begun x)) e))
+        module _ {ts′ hits unsure : ℕ} {y : Sets} (a : hits ≡ hitsOf s i) (m : unsure ≡ mixed s) (e : y ≡ z′)
+            (g : ts′ ≡ union (meet (o .moves .next) hits) (those 64 (meet (o .moves .next) unsure) (λ t.
+            has (y .modes) (source s t) && ltb 0 (alternative s i (setsOf begun y) t)))) where
+          by-words : ts′ ≡ by (o .moves .next) (setsOf begun z′)
+          by-words =
+              g
+              ∙ ap₂ (λ (p q : ℕ). union (meet (o .moves .next) p) (those 64 (meet (o .moves .next) q) (λ t.
+              has (y .modes) (source s t) && ltb 0 (alternative s i (setsOf begun y) t)))) a m
+              ∙ ap (λ (x : Sets). by (o .moves .next) (setsOf begun x)) e
+
+          pub round-triggers : ts′ ≡ triggered s 0 i (afterRound s (setsOf begun z) es)
+          round-triggers = by-words ∙ triggers-next ∙ ap (triggered s 0 i) after
+
+          pub round-by : Left s begun entered first i y ts′ (r + 1)
+          round-by = subst (λ (x : Sets). Left s begun entered first i x ts′ (r + 1)) (sym e) (round-taken by-words)

@@ -1,4 +1,4 @@
--- Laws of `over`: a row of stores, a row after a row, a part lent and put back. Assumes nothing.
+-- Laws of `over`: a row of stores, a row after a row, a store under a row, a part lent and put back. Assumes nothing.
 use mathlib.Core.Path.{_≡_, refl, sym, ap, _∙_}
 use mathlib.Core.Logic.{_⊎_, inl, inr}
 use mathlib.Core.List.{List, [], _∷_, _++_, append-assoc, append-nil}
@@ -6,7 +6,7 @@ use Prim.Native.Nat.{ℕ, _+_, _-_, _≤_, _<_}
 use native.Mathlib.Omega.{arith}
 use native.Mathlib.Nat.{zero-add, add-zero, add-assoc}
 use lib.ListN.{length, set, length-replicate, replicate-append-replicate, getD, List·getD-append, take, drop, length-append, length-drop, take-append-drop, drop-of-length-le}
-use lib.Seq.{sets, sets-eq, length-take-le, take-all, take-at, drop-append-add, drop-drop, getD-take, getD-drop, getD-append-add}
+use lib.Seq.{sets, sets-eq, length-take-le, take-all, take-at, take-append-le, drop-append-add, drop-drop, take-set-le, drop-set-lt, getD-take, getD-drop, getD-append-add}
 use borrow.Rule.Slice.PartMut.{putMid}
 use Rattle.rows.specs.Over.{over, zeros}
 
@@ -54,6 +54,18 @@ module _ (l : List ℕ) (at : ℕ) (vs : List ℕ) (h : at + length vs ≤ lengt
       rw (e, length-append, ← add-assoc) (drop-over (length us)) in
       cc (over-def (over l at vs) n us, over-def l at (vs ++ us), take-over n e, append-assoc (take at l) vs us)
 
+  take-before : take at (over l at vs) ≡ take at l
+  unfolding over
+  take-before =
+      take-append-le at (take at l ++ vs) (drop (at + length vs) l) (omega (arith, head-length))
+      ∙ take-at (take at l) vs at (length-take-le at l (omega arith))
+
+  -- a row, and then another in its place
+  pub over-again : (us : List ℕ) → length us ≡ length vs → over (over l at vs) at us ≡ over l at us
+  over-again us e =
+      let back : drop (at + length us) (over l at vs) ≡ drop (at + length us) l = rw (e, ← add-zero (at + length vs)) (drop-over 0) in
+      cc (over-def (over l at vs) at us, over-def l at us, take-before, back)
+
   -- word i of the row, and a word that is not of the row
   pub over-in : (i : ℕ) → i < length vs → getD (over l at vs) (at + i) 0 ≡ getD vs i 0
   unfolding over
@@ -73,6 +85,18 @@ module _ (l : List ℕ) (at : ℕ) (vs : List ℕ) (h : at + length vs ≤ lengt
       let q : n + (p - n) ≡ p = omega arith in
       ap (λ (i : ℕ). getD (take at l ++ vs ++ drop n l) i 0) e ∙ getD-append-add (take at l ++ vs) (drop n l) (p - n) 0
       ∙ getD-drop n l (p - n) 0 ∙ ap (λ (i : ℕ). getD l i 0) q
+
+-- a store inside the row is lost under it
+pub over-set : (l : List ℕ) (at : ℕ) (vs : List ℕ) (i x : ℕ) → i < length vs → over (set l (at + i) x) at vs ≡ over l at vs
+unfolding over
+over-set l at vs i x h = rw (take-set-le at l (at + i) x (omega arith), drop-set-lt (at + length vs) l (at + i) x (omega arith))
+
+-- the row that stands there
+pub over-same : (l : List ℕ) (at n : ℕ) → at + n ≤ length l → over l at (take n (drop at l)) ≡ l
+unfolding over
+over-same l at n h =
+    let e : length (take n (drop at l)) ≡ n = length-take-le n (drop at l) (omega (arith, length-drop at l)) in
+    rw (e, ← drop-drop n at l, append-assoc, take-append-drop n (drop at l)) (take-append-drop at l)
 
 -- ---- a row of zeros: none, one more
 
