@@ -41,9 +41,9 @@ use Rattle.reaction.proofs.StartLaws.{startSets, start-sets, tick-by}
 use Rattle.reaction.proofs.FiredLaws.{numbers-by, numbers-quiet}
 use Rattle.run.specs.Runs.{endedRun}
 use Rattle.run.proofs.DeadlineLaws.{stateFrom, reading-from, state-next, deadline-after, state-start, start-within}
-use Rattle.run.proofs.LoopLaws.{reached-start, reached-turn, ByDeadlines, due-now, ends-refused}
+use Rattle.run.proofs.LoopLaws.{reached-start, reached-turn, ByDeadlines, due-now, ends-refused, goes-on}
 use Rattle.simulator.proofs.DelayLaws.{delay-at}
-use Rattle.simulator.proofs.NumbersLoop.{Written, written-start, written-next}
+use Rattle.simulator.proofs.NumbersLoop.{Written, written-start, written-next, short-neither}
 use Rattle.simulator.proofs.SheetStateLaws.{admitted, admitted-known}
 use Rattle.simulator.proofs.LiveLaws.{sources-none}
 
@@ -276,9 +276,18 @@ module _ {s inputs out₀ numbers₀ : List ℕ} {q₀ : State} {out numbers end
         stays : (t : ℕ) → T (has (running s x) t) → i + 1 < getD ends t 0 → soon′ ≤ getD ends t 0
         stays t h a = ⊎-elim (λ c. omega arith) (λ c. c) (later t (rw te (is-true (has (running s x) t) h)))
 
--- ---- the whole run: at most T rounds for each done tick
+-- ---- the whole run
 
 module _ (s inputs out numbers : List ℕ) (q : State) where
+  -- nothing is refused before its ticks
+  pub runs-on : {o : NumberedRun} → sheetRefusal s ≡ 0 → stateOk s q ≡ true → 5 * length inputs ≤ length out → 64 * length inputs ≤ length numbers
+      → o ≡ withNumbers s q inputs numbers (ran out (sheetTicks s inputs q)) → o ≡ sheetRun s q inputs out numbers
+  unfolding sheetRun
+  runs-on z ok a b e =
+      e
+      ∙ ap (withNumbers s q inputs numbers) (goes-on (kOf s) (sheetStep s) (sheetRefusal s) (stateOk s q) _ q inputs out z ok (short-neither inputs out numbers a b))
+
+  -- at most T rounds for each done tick
   pub answered : {r : Run} {written : List ℕ} {low : ℕ} → record { run = r; numbers = written } ≡ sheetRun s q inputs out numbers → low < 2 ^ 32
       → (record { run = r; numbers = written } ≡ sheetRun s q inputs out numbers) × (r .rounds ≤ tOf s * r .done) × (low < 2 ^ 32)
   unfolding sheetRun withNumbers ran stops RunRounds

@@ -1,5 +1,5 @@
 -- `simulator::sheet_run::run` meets its contract: each way out is a case of `sheetRun`, in its order. Assumes nothing.
-use mathlib.Core.Path.{_≡_, refl, sym, ap, _∙_}
+use mathlib.Core.Path.{_≡_, refl, sym, _∙_}
 use mathlib.Core.Logic.{⊎-elim}
 use mathlib.Core.Bool.{true}
 use Prim.Native.Nat.{_*_, _/_, _≤_}
@@ -8,11 +8,11 @@ use lib.ListN.{length}
 use borrow.Author.Needs.{needs}
 use borrow.Author.Tests.{ltb-true, ltb-false}
 use Rattle.sets.proofs.Loops.{passed, failed}
-use Rattle.meaning.specs.SheetRun.{stateOk, withNumbers, sheetRun}
+use Rattle.meaning.specs.SheetRun.{stateOk, sheetRun}
 use Rattle.run.specs.States.{stateOf}
-use Rattle.run.proofs.LoopLaws.{stopped-refused, stopped-state, stopped-short, goes-on}
-use Rattle.simulator.proofs.NumbersLoop.{written-none, short-output, short-numbers, short-neither}
-use Rattle.simulator.proofs.SheetRunLaws.{answered}
+use Rattle.run.proofs.LoopLaws.{stopped-refused, stopped-state, stopped-short}
+use Rattle.simulator.proofs.NumbersLoop.{written-none, short-output, short-numbers}
+use Rattle.simulator.proofs.SheetRunLaws.{runs-on, answered}
 use Rattle.simulator.proofs.sheet_run.run.Statement.{statement}
 use Rattle.simulator.proofs.sheet_run.run.Tie as tie
 
@@ -119,15 +119,12 @@ same-length-2 : tie.Need-same-length-2
 same-length-2 c = search needs
 
 returns-4 : tie.Need-returns-4
-unfolding sheetRun
 returns-4 c =
     let end = c .before .before .before .before in
     let room = ready (end .before) in
     let state = room .before .before in
     answered _ _ _ _ _
-    (end .ticks .ensures .0
-    ∙ ap (withNumbers _ _ _ _) (goes-on _ _ _ _ _ _ _ _ (prepared (state .before) .put-plan .ensures .passes) (admitted state)
-    (short-neither _ _ _ (roomy room .0) (roomy room .1))))
+    (runs-on _ _ _ _ _ (prepared (state .before) .put-plan .ensures .passes) (admitted state) (roomy room .0) (roomy room .1) (end .ticks .ensures .0))
     (end .ticks .ensures .1)
 
 pub run-spec : {M : Type 1} → statement M
