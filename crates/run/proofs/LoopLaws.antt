@@ -159,20 +159,29 @@ module _ {k : ℕ} {step : State → ℕ → Step} {inputs out₀ : List ℕ} {q
 abbrev pub stopped : State → List ℕ → ℕ → Run
 stopped q out e = record { done = 0; state = q; refusal = e; rounds = 0; out = out }
 
-module _ (k : ℕ) (step : State → ℕ → Step) (refusal : ℕ) (ok : Bool) (q : State) (inputs out : List ℕ) where
+-- fewer than five output words for an input set, or five for each
+module _ (inputs out : List ℕ) where
+  pub output-short : length out / 5 < length inputs → outputShort inputs out ≡ true
+  unfolding outputShort
+  output-short h = lt-ltb (length out) (5 * length inputs) (omega arith)
+
+  pub output-room : 5 * length inputs ≤ length out → outputShort inputs out ≡ false
+  unfolding outputShort
+  output-room h = le-ltb (length out) (5 * length inputs) h
+
+module _ (k : ℕ) (step : State → ℕ → Step) (refusal : ℕ) (ok short : Bool) (q : State) (inputs out : List ℕ) where
   stopped-is : (e : ℕ) → stopped q out e ≡ ran out (stops e q)
   unfolding ran stops overwritten
   stopped-is e = refl
 
-  pub stopped-refused : {e : ℕ} → e ≡ refusal → (e ≡ 0 → ⊥) → stopped q out e ≡ run k step refusal ok q inputs out
-  stopped-refused z n = ap (stopped q out) z ∙ stopped-is refusal ∙ sym (run-refused k step refusal ok q inputs out (λ h. n (z ∙ h)))
+  pub stopped-refused : {e : ℕ} → e ≡ refusal → (e ≡ 0 → ⊥) → stopped q out e ≡ run k step refusal ok short q inputs out
+  stopped-refused z n = ap (stopped q out) z ∙ stopped-is refusal ∙ sym (run-refused k step refusal ok short q inputs out (λ h. n (z ∙ h)))
 
-  pub stopped-state : refusal ≡ 0 → ok ≡ false → stopped q out 14 ≡ run k step refusal ok q inputs out
-  stopped-state z e = stopped-is 14 ∙ sym (run-state k step refusal ok q inputs out z e)
+  pub stopped-state : refusal ≡ 0 → ok ≡ false → stopped q out 14 ≡ run k step refusal ok short q inputs out
+  stopped-state z e = stopped-is 14 ∙ sym (run-state k step refusal ok short q inputs out z e)
 
-  pub stopped-short : refusal ≡ 0 → ok ≡ true → length out / 5 < length inputs → stopped q out 12 ≡ run k step refusal ok q inputs out
-  stopped-short z e h =
-      stopped-is 12 ∙ sym (run-short k step refusal ok q inputs out z e (unfold outputShort in (lt-ltb (length out) (5 * length inputs) (omega arith))))
+  pub stopped-short : refusal ≡ 0 → ok ≡ true → short ≡ true → stopped q out 12 ≡ run k step refusal ok short q inputs out
+  stopped-short z e h = stopped-is 12 ∙ sym (run-short k step refusal ok short q inputs out z e h)
 
-  pub goes-on : refusal ≡ 0 → ok ≡ true → 5 * length inputs ≤ length out → ran out (ticks k step inputs q) ≡ run k step refusal ok q inputs out
-  goes-on z e h = sym (run-goes k step refusal ok q inputs out z e (unfold outputShort in (le-ltb (length out) (5 * length inputs) h)))
+  pub goes-on : refusal ≡ 0 → ok ≡ true → short ≡ false → ran out (ticks k step inputs q) ≡ run k step refusal ok short q inputs out
+  goes-on z e h = sym (run-goes k step refusal ok short q inputs out z e h)

@@ -1,4 +1,5 @@
 pub mod DelayLaws
 pub mod LiveLaws
+pub mod NumbersLoop
 pub mod SheetStateLaws
 pub mod SheetRunLaws

@@ -1,8 +1,8 @@
--- The sheet run by deadlines: what is left from here, in a mode set by the deadlines now, gives what all gives from the start.
--- Assumes nothing.
+-- The sheet run by deadlines: what is left from here, in a mode set by the deadlines now, gives what all gives from the start; the
+-- numbers so far. Assumes nothing.
 use mathlib.Core.Path.{_≡_, refl, sym, ap, _∙_, subst}
 use mathlib.Core.Logic.{_⊎_, inl, inr, ⊎-elim}
-use mathlib.Core.Bool.{Bool, true, false, cond, and-true}
+use mathlib.Core.Bool.{Bool, true, false, _||_, cond, and-true}
 use mathlib.Core.List.{List, [], _∷_}
 use Prim.Native.Nat.{ℕ, suc, _+_, _-_, _*_, _/_, _^_, _≤_, _<_, zero-le}
 use native.Mathlib.Nat.{add-zero, lt-of-lt-of-le}
@@ -14,14 +14,15 @@ use Rattle.sets.proofs.Tests.{is-true, is-false}
 use Rattle.sets.proofs.Facts.{those-e}
 use Rattle.sets.proofs.Membership.{has-none, has-meet, those-lt, lt-of-members}
 use Rattle.sets.proofs.Members.{empty}
-use Rattle.rows.specs.Over.{over}
+use Rattle.rows.specs.Over.{over, zeros}
 use Rattle.meaning.specs.Lists.{rowFrom}
 use Rattle.meaning.specs.Sheet.{kOf, tOf, source}
 use Rattle.meaning.specs.Check.{sheetRefusal}
 use Rattle.meaning.specs.Reaction.{TickSets, delay, running, triggered}
-use Rattle.meaning.specs.Tick.{Tick, tick, fiveWords}
-use Rattle.meaning.specs.Run.{State, reading, dueTimers, stops, Run, ran}
-use Rattle.meaning.specs.SheetRun.{stateOk, tickFrom, stateAfter, sheetStep, sheetTicks, sheetRun}
+use Rattle.meaning.specs.Tick.{Tick, begin, tick, fiveWords}
+use Rattle.meaning.specs.Alternatives.{numbersShort, tickNumbers}
+use Rattle.meaning.specs.Run.{State, reading, dueTimers, stops, outputShort, Run, ran}
+use Rattle.meaning.specs.SheetRun.{NumberedRun, stateOk, tickFrom, stateAfter, sheetStep, sheetTicks, numbersFrom, withNumbers, sheetRun}
 use Rattle.meaning.specs.Promises.{RunRounds}
 use Rattle.meaning.proofs.ListLaws.{rowFrom-length, rowFrom-ext, rowFrom-getD}
 use Rattle.meaning.proofs.SheetLaws.{Sound, t-le}
@@ -32,14 +33,17 @@ use Rattle.meaning.proofs.RunLaws.{run-all}
 use Rattle.meaning.proofs.SheetTicksLaws.{run-rounds, five-long}
 use Rattle.reaction.specs.Plan.{sourcesIn, timerDelay}
 use Rattle.reaction.specs.Rounds.{roundsBy, Known, StartOf, Before}
+use Rattle.reaction.specs.Causes.{firedBy}
 use Rattle.reaction.specs.declared.tick.Start.{Start}
 use Rattle.reaction.proofs.PlanLaws.{has-sourcesIn}
 use Rattle.reaction.proofs.EarlyLaws.{begins}
 use Rattle.reaction.proofs.StartLaws.{startSets, start-sets, tick-by}
+use Rattle.reaction.proofs.FiredLaws.{numbers-by, numbers-quiet}
 use Rattle.run.specs.Runs.{endedRun}
 use Rattle.run.proofs.DeadlineLaws.{stateFrom, reading-from, state-next, deadline-after, state-start, start-within}
-use Rattle.run.proofs.LoopLaws.{reached-start, reached-turn, ByDeadlines, due-now, ends-refused}
+use Rattle.run.proofs.LoopLaws.{reached-start, reached-turn, ByDeadlines, due-now, ends-refused, goes-on}
 use Rattle.simulator.proofs.DelayLaws.{delay-at}
+use Rattle.simulator.proofs.NumbersLoop.{Written, written-start, written-next, short-neither}
 use Rattle.simulator.proofs.SheetStateLaws.{admitted, admitted-known}
 use Rattle.simulator.proofs.LiveLaws.{sources-none}
 
@@ -59,8 +63,9 @@ right-ahead s sd x ends i r t h =
 
 -- ---- input i is reached in the mode set x, by the deadlines ends
 
-pub record ReachedModes (s inputs out₀ : List ℕ) (q₀ : State) (out ends : List ℕ) (x live soon total i : ℕ) : Type 0 where
+pub record ReachedModes (s inputs out₀ numbers₀ : List ℕ) (q₀ : State) (out numbers ends : List ℕ) (x live soon total i : ℕ) : Type 0 where
   pub timed : ByDeadlines (kOf s) (sheetStep s) inputs out₀ q₀ out ends x (running s x) total i
+  pub written : Written s inputs numbers₀ q₀ numbers (stateAt s x ends i) i
   pub sound : Sound s
   pub sources : live ≡ sourcesIn s x
   pub known : Known s x
@@ -80,13 +85,14 @@ module _ (s : List ℕ) (sd : Sound s) (q : State) (ok : stateOk s q ≡ true) {
   start-right t h =
       start-within (running s (q .at)) (delay s) q (admitted s q ok) t (lt-of-lt-of-le (running-e s (q .at) t h .small) (t-le s sd)) h
 
-  pub start-modes : {inputs out : List ℕ} {live : ℕ} → live ≡ sourcesIn s (q .at) → 5 * length inputs ≤ length out
-      → ReachedModes s inputs out (stateAt s (q .at) ends 0) out ends (q .at) live 0 0 0
-  start-modes {inputs} {out} l room =
+  pub start-modes : {inputs out numbers : List ℕ} {live : ℕ} → live ≡ sourcesIn s (q .at) → 5 * length inputs ≤ length out → 64 * length inputs ≤ length numbers
+      → ReachedModes s inputs out numbers (stateAt s (q .at) ends 0) out numbers ends (q .at) live 0 0 0
+  start-modes {inputs} {out} {numbers} l room numbers-room =
       let right = subst (Right s) (sym start-state) start-right in
       let reached = reached-start (kOf s) (sheetStep s) inputs out (stateAt s (q .at) ends 0) room in
       record {
         timed = record { reached = reached; long = long; ahead = right-ahead s sd (q .at) ends 0 right };
+        written = written-start s inputs numbers (stateAt s (q .at) ends 0) numbers-room;
         sound = sd;
         sources = l;
         known = admitted-known s q ok;
@@ -95,7 +101,8 @@ module _ (s : List ℕ) (sd : Sound s) (q : State) (ok : stateOk s q ≡ true) {
         few = zero-le;
       }
 
-module _ {s inputs out₀ : List ℕ} {q₀ : State} {out ends : List ℕ} {x live soon total i : ℕ} (k : ReachedModes s inputs out₀ q₀ out ends x live soon total i) where
+module _ {s inputs out₀ numbers₀ : List ℕ} {q₀ : State} {out numbers ends : List ℕ} {x live soon total i : ℕ}
+    (k : ReachedModes s inputs out₀ numbers₀ q₀ out numbers ends x live soon total i) where
   abbrev now : State
   now = stateAt s x ends i
 
@@ -147,7 +154,8 @@ module _ {s inputs out₀ : List ℕ} {q₀ : State} {out ends : List ℕ} {x li
 
     next-modes : i < length inputs → input / 2 ^ kOf s ≡ 0 → {soon′ : ℕ}
         → ((t : ℕ) → T (has (running s (z .modes)) t) → i + 1 < getD ends′ t 0 → soon′ ≤ getD ends′ t 0)
-        → ReachedModes s inputs out₀ q₀ (over out (5 * i) (fiveWords z)) ends′ (z .modes) (sourcesIn s (z .modes)) soon′ (total + o .rounds) (i + 1)
+        → ReachedModes s inputs out₀ numbers₀ q₀ (over out (5 * i) (fiveWords z)) (over numbers (64 * i) (numbersFrom s now input)) ends′
+        (z .modes) (sourcesIn s (z .modes)) soon′ (total + o .rounds) (i + 1)
     unfolding sheetStep
     next-modes l b later =
         let rounds : o .rounds ≤ tOf s = unfold tickFrom in (rounds-le s (dueTimers (running s x) (now .readings)) input x) in
@@ -159,6 +167,7 @@ module _ {s inputs out₀ : List ℕ} {q₀ : State} {out ends : List ℕ} {x li
             long = ap length ee ∙ rowFrom-length (λ t. cond (has set t) (i + 1 + getD delays t 0) (getD ends t 0)) 0 64;
             ahead = ahead;
           };
+          written = written-next s inputs numbers₀ q₀ (k .written) l next-state;
           sound = k .sound;
           sources = refl;
           known = unfold tickFrom in (inr (keeps-consistent s (k .sound) x _ input (k .known)));
@@ -200,6 +209,12 @@ module _ {s inputs out₀ : List ℕ} {q₀ : State} {out ends : List ℕ} {x li
     unfolding tick-begins
     tick-of h v st e g = tick-by s h (tick-begins st) v e g
 
+    -- its numbers
+    pub numbers-of : sheetRefusal s ≡ 0 → input < 2 ^ kOf s → {b : Start} {first : ℕ} → StartOf s x b → first ≡ triggered s d input (startSets b)
+        → rowFrom 0 64 (firedBy s (suc (tOf s)) input (startSets b) first) ≡ tickNumbers s x d input
+    unfolding tick-begins
+    numbers-of h v st e = numbers-by s h (tick-begins st) v e
+
     module _ (l : i < length inputs) (b : input / 2 ^ kOf s ≡ 0) {r : Tick} (re : r ≡ tick s x d input) where
       tick-now : r ≡ o
       unfolding tickFrom
@@ -213,30 +228,36 @@ module _ {s inputs out₀ : List ℕ} {q₀ : State} {out ends : List ℕ} {x li
       pub tick-stayed : (m : ℕ) → T (has (r .sets .modes) m) → T (has x m) ⊎ T (has (r .sets .entered) m)
       tick-stayed = rw re (stayed-or-entered s d input x)
 
-      module _ (n : r .refusal ≡ 0) {live′ total′ : ℕ} {out′ : List ℕ} (oe : out′ ≡ over out (5 * i) (fiveWords (r .sets)))
-          (le : live′ ≡ sourcesIn s (r .sets .modes)) (tt : total′ ≡ total + r .rounds) where
+      numbers-now : tickNumbers s x d input ≡ numbersFrom s now input
+      unfolding numbersFrom
+      numbers-now = ap (λ (y : ℕ). tickNumbers s x y input) due-is
+
+      module _ (n : r .refusal ≡ 0) {live′ total′ : ℕ} {out′ five numbers′ row : List ℕ} (oe : out′ ≡ over out (5 * i) five) (fe : five ≡ fiveWords (r .sets))
+          (ne : numbers′ ≡ over numbers (64 * i) row) (we : row ≡ tickNumbers s x d input) (le : live′ ≡ sourcesIn s (r .sets .modes)) (tt : total′ ≡ total + r .rounds) where
         -- the deadlines of the timers that start are set
         pub next-turn : {set : ℕ} {delays ends′ : List ℕ} → set ≡ meet (sourcesIn s (r .sets .entered)) (running s (r .sets .modes))
             → delays ≡ rowFrom 0 64 (timerDelay s) → ends′ ≡ rowFrom 0 64 (λ t. cond (has set t) (i + 1 + getD delays t 0) (getD ends t 0))
             → {soon′ : ℕ} → ((t : ℕ) → T (has (running s (r .sets .modes)) t) → i + 1 < getD ends′ t 0 → soon′ ≤ getD ends′ t 0)
-            → ReachedModes s inputs out₀ q₀ out′ ends′ (r .sets .modes) live′ soon′ total′ (i + 1)
+            → ReachedModes s inputs out₀ numbers₀ q₀ out′ numbers′ ends′ (r .sets .modes) live′ soon′ total′ (i + 1)
         next-turn se ye ee later =
-            rw (oe, le, tt, tick-now)
+            rw (oe, fe, ne, we, numbers-now, le, tt, tick-now)
             (next-modes (sym (ap (λ (y : Tick). y .refusal) tick-now) ∙ n) (rw tick-now at se) ye ee l b (rw tick-now at later))
 
     -- nothing is triggered in it: the modes and the deadlines stay, and none of those that run was due
     pub next-quiet : i < length inputs → input / 2 ^ kOf s ≡ 0 → {b : Start} {first : ℕ} → StartOf s x b
-        → first ≡ triggered s d input (startSets b) → first ≡ 0 → (x ≡ 0 → ⊥) → {soon′ : ℕ} {out′ : List ℕ}
+        → first ≡ triggered s d input (startSets b) → first ≡ 0 → (x ≡ 0 → ⊥) → {soon′ : ℕ} {out′ numbers′ : List ℕ}
         → ((t : ℕ) → has timers t ≡ true → (getD ends t 0 ≡ i + 1) ⊎ (soon′ ≤ getD ends t 0))
-        → out′ ≡ over out (5 * i) (0 ∷ 0 ∷ x ∷ 0 ∷ 0 ∷ [])
-        → ReachedModes s inputs out₀ q₀ out′ ends x live soon′ total (i + 1)
+        → out′ ≡ over out (5 * i) (0 ∷ 0 ∷ x ∷ 0 ∷ 0 ∷ []) → numbers′ ≡ over numbers (64 * i) (zeros 64)
+        → ReachedModes s inputs out₀ numbers₀ q₀ out′ numbers′ ends x live soon′ total (i + 1)
     unfolding fiveWords
-    next-quiet l b st e z n {soon′} later oe =
+    next-quiet l b st e z n {soon′} later oe ne =
         next-turn l b
-        (ap (λ (y : TickSets). record { refusal = 0; sets = y; rounds = 0 }) (begins s x n)
-        ∙ sym (tick-quiet s x d input (sym (ap (triggered s d input) (start-sets s st)) ∙ sym e ∙ z)))
-        refl oe (k .sources) (sym (add-zero total)) refl refl same stays
+        (ap (λ (y : TickSets). record { refusal = 0; sets = y; rounds = 0 }) (begins s x n) ∙ sym (tick-quiet s x d input none-first))
+        refl oe refl ne (sym (numbers-quiet s x d input none-first)) (k .sources) (sym (add-zero total)) refl refl same stays
       where
+        none-first : triggered s d input (begin s x) ≡ 0
+        none-first = sym (ap (triggered s d input) (start-sets s st)) ∙ sym e ∙ z
+
         set : ℕ
         set = meet (sourcesIn s 0) (running s x)
 
@@ -255,13 +276,23 @@ module _ {s inputs out₀ : List ℕ} {q₀ : State} {out ends : List ℕ} {x li
         stays : (t : ℕ) → T (has (running s x) t) → i + 1 < getD ends t 0 → soon′ ≤ getD ends t 0
         stays t h a = ⊎-elim (λ c. omega arith) (λ c. c) (later t (rw te (is-true (has (running s x) t) h)))
 
--- ---- the whole run: at most T rounds for each done tick
+-- ---- the whole run
 
-module _ (s inputs out : List ℕ) (q : State) where
-  pub answered : {r : Run} {low : ℕ} → r ≡ sheetRun s q inputs out → low < 2 ^ 32
-      → (r ≡ sheetRun s q inputs out) × (r .rounds ≤ tOf s * r .done) × (low < 2 ^ 32)
-  unfolding sheetRun ran stops RunRounds
+module _ (s inputs out numbers : List ℕ) (q : State) where
+  -- nothing is refused before its ticks
+  pub runs-on : {o : NumberedRun} → sheetRefusal s ≡ 0 → stateOk s q ≡ true → 5 * length inputs ≤ length out → 64 * length inputs ≤ length numbers
+      → o ≡ withNumbers s q inputs numbers (ran out (sheetTicks s inputs q)) → o ≡ sheetRun s q inputs out numbers
+  unfolding sheetRun
+  runs-on z ok a b e =
+      e
+      ∙ ap (withNumbers s q inputs numbers) (goes-on (kOf s) (sheetStep s) (sheetRefusal s) (stateOk s q) _ q inputs out z ok (short-neither inputs out numbers a b))
+
+  -- at most T rounds for each done tick
+  pub answered : {r : Run} {written : List ℕ} {low : ℕ} → record { run = r; numbers = written } ≡ sheetRun s q inputs out numbers → low < 2 ^ 32
+      → (record { run = r; numbers = written } ≡ sheetRun s q inputs out numbers) × (r .rounds ≤ tOf s * r .done) × (low < 2 ^ 32)
+  unfolding sheetRun withNumbers ran stops RunRounds
   answered e l =
       let few =
-      run-all (kOf s) (sheetStep s) (sheetRefusal s) (stateOk s q) q inputs out (λ r. r .rounds ≤ tOf s * r .done) (λ e. zero-le) (run-rounds s inputs q) in
-      (e, rw e few, l)
+      run-all (kOf s) (sheetStep s) (sheetRefusal s) (stateOk s q) (outputShort inputs out || numbersShort inputs numbers) q inputs out
+      (λ r. r .rounds ≤ tOf s * r .done) (λ e. zero-le) (run-rounds s inputs q) in
+      (e, rw (ap (λ (o : NumberedRun). o .run) e) few, l)

@@ -8,7 +8,7 @@ use Rattle.meaning.specs.Table.{tableOk}
 use Rattle.meaning.specs.Lists.{refusedIf}
 use Rattle.meaning.specs.TableRun.{tableStateOk, tableRun}
 use Rattle.run.specs.States.{stateOf}
-use Rattle.run.proofs.LoopLaws.{stopped-refused, stopped-state, stopped-short, goes-on}
+use Rattle.run.proofs.LoopLaws.{output-short, output-room, stopped-refused, stopped-state, stopped-short, goes-on}
 use Rattle.recorder.proofs.table_run.run.Statement.{statement}
 use Rattle.recorder.proofs.table_run.run.Tie as tie
 
@@ -44,7 +44,7 @@ returns : tie.Need-returns
 unfolding tableRun refusedIf
 returns c =
     c .stops .ensures _
-    ∙ stopped-refused _ _ _ _ _ _ _ (rw (failed (c .before .before .table-ok .ensures) (c .before .if1 .taken))) (λ z. omega arith)
+    ∙ stopped-refused _ _ _ _ _ _ _ _ (rw (failed (c .before .before .table-ok .ensures) (c .before .if1 .taken))) (λ z. omega arith)
 
 delays-requires : tie.Need-delays-requires
 delays-requires c κs = sound c
@@ -60,7 +60,7 @@ unfolding tableRun
 returns-2 c =
     let state = c .before .before in
     c .stops2 .ensures _
-    ∙ stopped-state _ _ _ _ _ _ _ (no-refusal (checked state)) (failed (state .state-ok .ensures) (c .before .if2 .taken))
+    ∙ stopped-state _ _ _ _ _ _ _ _ (no-refusal (checked state)) (failed (state .state-ok .ensures) (c .before .if2 .taken))
 
 stops-requires-3 : tie.Need-stops-requires-3
 stops-requires-3 c κs = search needs
@@ -69,7 +69,7 @@ returns-3 : tie.Need-returns-3
 unfolding tableRun
 returns-3 c =
     let state = c .before .before in
-    c .stops3 .ensures _ ∙ stopped-short _ _ _ _ _ _ _ (no-refusal (checked (state .before))) (state-sound state) (c .before .if3 .taken)
+    c .stops3 .ensures _ ∙ stopped-short _ _ _ _ _ _ _ _ (no-refusal (checked (state .before))) (state-sound state) (output-short _ _ (c .before .if3 .taken))
 
 ticks-requires : tie.Need-ticks-requires
 ticks-requires c κs =
@@ -87,7 +87,7 @@ returns-4 c =
     let room = ready (c .before .before) in
     let state = room .before in
     c .before .before .ticks .ensures
-    ∙ goes-on _ _ _ _ _ _ _ (no-refusal (checked (state .before))) (state-sound state) (omega (arith, room .if3 .left))
+    ∙ goes-on _ _ _ _ _ _ _ _ (no-refusal (checked (state .before))) (state-sound state) (output-room _ _ (omega (arith, room .if3 .left)))
 
 pub run-spec : {M : Type 1} → statement M
 run-spec =

@@ -1,45 +1,52 @@
 -- `simulator::sheet_run::ticks` meets its contract. The loop's invariant is `ReachedModes`: what is left from here, by the
--- deadlines now, gives what all gives from the start. Assumes nothing.
-use mathlib.Core.Path.{_≡_, sym, ap, ap₂, _∙_}
+-- deadlines now, gives what all gives from the start, and the numbers so far stand. Assumes nothing.
+use mathlib.Core.Path.{_≡_, refl, sym, ap, ap₂, _∙_}
 use mathlib.Core.Bool.{true}
+use mathlib.Core.List.{List}
 use borrow.Author.Needs.{needs}
-use Prim.Native.Nat.{ℕ, _-_, _*_, _/_, _^_, _≤_, _<_, zero-le}
+use Prim.Native.Nat.{ℕ, suc, _-_, _/_, _^_, _≤_, _<_, zero-le}
 use native.Mathlib.Omega.{arith}
 use lib.Dec.{eqb}
 use lib.ListN.{length, getD}
 use borrow.Author.Tests.{eqb-false, not-true}
 use Rattle.sets.specs.Sets.{has, meet}
 use Rattle.sets.proofs.Tests.{of-true}
-use Rattle.rows.specs.Over.{over}
-use Rattle.meaning.specs.Sheet.{kOf}
+use Rattle.meaning.specs.Lists.{rowFrom}
+use Rattle.meaning.specs.Sheet.{kOf, tOf}
 use Rattle.meaning.specs.Reaction.{running}
 use Rattle.meaning.specs.Tick.{tick}
+use Rattle.meaning.specs.Alternatives.{tickNumbers}
+use Rattle.meaning.specs.Run.{Run, ran}
+use Rattle.meaning.specs.SheetRun.{sheetTicks, withNumbers}
 use Rattle.meaning.proofs.SheetLaws.{Sound, sound, k-le}
 use Rattle.sheet.proofs.Past.{head-read}
 use Rattle.reaction.specs.Plan.{timersWord}
 use Rattle.reaction.specs.Rounds.{tickOf, Before}
+use Rattle.reaction.specs.Causes.{firedBy}
 use Rattle.reaction.proofs.PlanLaws.{running-meet}
-use Rattle.reaction.proofs.StartLaws.{begun-of}
+use Rattle.reaction.proofs.StartLaws.{startSets, begun-of}
 use Rattle.run.specs.Counts.{totalOf}
+use Rattle.run.specs.Runs.{endedRun}
 use Rattle.run.specs.States.{stateOf}
 use Rattle.run.proofs.LoopLaws.{input-below, later, ends-done, ends-foreign}
 use Rattle.simulator.proofs.DelayLaws.{delay-word}
-use Rattle.simulator.proofs.SheetRunLaws.{stateAt, ReachedModes, start-state, start-modes, tick-begins, tick-of, tick-refused, tick-stayed, next-turn, next-quiet}
+use Rattle.simulator.proofs.NumbersLoop.{written-ends}
+use Rattle.simulator.proofs.SheetRunLaws.{stateAt, ReachedModes, start-state, start-modes, tick-begins, tick-of, numbers-of, tick-refused, tick-stayed, next-turn, next-quiet}
 use Rattle.simulator.proofs.sheet_run.ticks.Statement.{statement}
 use Rattle.simulator.proofs.sheet_run.ticks.Tie as tie
 
 abbrev Inv-loop : tie.InvT-loop
-Inv-loop sheet plan delays inputs out₀ timers k ends₀ x₀ live₀ power-on soon₀ total₀ i₀ out ends x live soon total i =
-    ReachedModes sheet inputs out₀ (stateAt sheet x₀ ends₀ 0) out ends x live soon (totalOf total) i × (total .1 < 4294967296)
+Inv-loop sheet plan delays inputs out₀ numbers₀ timers k ends₀ x₀ live₀ power-on soon₀ total₀ i₀ out numbers ends x live soon total i =
+    ReachedModes sheet inputs out₀ numbers₀ (stateAt sheet x₀ ends₀ 0) out numbers ends x live soon (totalOf total) i × (total .1 < 4294967296)
 
 abbrev μ-loop : tie.MeasureT-loop
-μ-loop sheet plan delays inputs out₀ timers k ends₀ x₀ live₀ power-on soon₀ total₀ i₀ out ends x live soon total i = length inputs - i
+μ-loop sheet plan delays inputs out₀ numbers₀ timers k ends₀ x₀ live₀ power-on soon₀ total₀ i₀ out numbers ends x live soon total i = length inputs - i
 
 -- ---- the places that the needs go back to, each from the one after it
 
 -- before the loop: the entry, the deadlines
 abbrev entry : tie.After-timers Inv-loop μ-loop → tie.Start Inv-loop μ-loop
-entry c = c .before .before .before .before
+entry c = c .before .before .before .before .before
 
 abbrev dates : tie.At-loop Inv-loop μ-loop → tie.After-deadlines Inv-loop μ-loop
 dates c = c .before .before .before
@@ -63,17 +70,18 @@ inside c = known (due c) .before .before
 abbrev head : tie.After-first-triggered Inv-loop μ-loop → tie.At-loop Inv-loop μ-loop
 head c = inside c .before
 
--- nothing is triggered: that place from the words put, the words put from the end of the turn
-abbrev quiet : tie.After-quiet-words Inv-loop μ-loop → tie.Then3 Inv-loop μ-loop
-quiet c = c .before .before
+-- nothing is triggered: that place from the words and numbers put, these from the end of the turn
+abbrev quiet : tie.After-put-quiet Inv-loop μ-loop → tie.Then3 Inv-loop μ-loop
+quiet c = c .before .before .before
 
 abbrev still : tie.Then3 Inv-loop μ-loop → tie.After-first-triggered Inv-loop μ-loop
 still c = c .before .before
 
-abbrev quiet-put : tie.After-slice-known2 Inv-loop μ-loop → tie.After-put-five Inv-loop μ-loop
-quiet-put c = c .before .before
+abbrev quiet-put : tie.After-slice-known4 Inv-loop μ-loop → tie.After-put-quiet Inv-loop μ-loop
+quiet-put c = c .before .before .before .before
 
--- else: what is triggered first from the rounds; the rounds, not refused; what the tick leaves; the deadlines; the words put
+-- else: what is triggered first from the rounds; the rounds, not refused; what the tick leaves; the deadlines; the words put;
+-- the numbers put
 abbrev first : tie.After-rounds Inv-loop μ-loop → tie.After-first-triggered Inv-loop μ-loop
 first c = c .before .before
 
@@ -86,14 +94,20 @@ left c = c .before .before
 abbrev moved : tie.After-five-words Inv-loop μ-loop → tie.After-restart Inv-loop μ-loop
 moved c = c .before .before
 
-abbrev put : tie.After-slice-known3 Inv-loop μ-loop → tie.After-put-five2 Inv-loop μ-loop
+abbrev put : tie.After-slice-known5 Inv-loop μ-loop → tie.After-put-five Inv-loop μ-loop
 put c = c .before .before
+
+abbrev numbered : tie.After-slice-known6 Inv-loop μ-loop → tie.After-put-numbers Inv-loop μ-loop
+numbered c = c .before .before
 
 abbrev triggers : tie.After-left-by Inv-loop μ-loop → tie.After-first-triggered Inv-loop μ-loop
 triggers c = first (reacted (c .before))
 
-abbrev inputs-left : tie.After-slice-known3 Inv-loop μ-loop → tie.In-loop Inv-loop μ-loop
-inputs-left c = inside (triggers (left (moved (put c .before))))
+abbrev leaves : tie.After-slice-known5 Inv-loop μ-loop → tie.After-left-by Inv-loop μ-loop
+leaves c = left (moved (put c .before))
+
+abbrev inputs-left : tie.After-slice-known5 Inv-loop μ-loop → tie.In-loop Inv-loop μ-loop
+inputs-left c = inside (triggers (leaves c))
 
 -- ---- what holds there
 
@@ -104,8 +118,8 @@ count-is : (c : tie.At-loop Inv-loop μ-loop) → dates c .before .before .event
 count-is c = dates c .before .before .event-count .ensures
 
 -- so few ticks that every count fits
-short : (c : tie.In-loop Inv-loop μ-loop) → c .before .loop .i < 2305843009213693952
-short c = let s = start (c .before) in omega (arith, c .loop-test .taken, s .good .1 .1 .1 .0 .1)
+short : (c : tie.In-loop Inv-loop μ-loop) → c .before .loop .i < 144115188075855872
+short c = let s = start (c .before) in omega (arith, c .loop-test .taken, s .pre .4, s .good .1 .1 .1 .1 .1 .0 .1)
 
 -- the timers that run, and no deadline of theirs is past
 runs : (c : tie.At-loop Inv-loop μ-loop)
@@ -120,6 +134,19 @@ not-past c = later (c .loop .inv .0 .timed) (runs c)
 from-start : (c : tie.At-loop Inv-loop μ-loop)
     → let a = start c .args in stateAt (a .sheet .now) (a .start .at) (dates c .deadlines .result) 0 ≡ stateOf (a .start)
 from-start c = start-state _ (sheet-sound c) (stateOf (start c .args .start)) (start c .pre .2) (dates c .deadlines .ensures) (search needs)
+
+-- the run that ends here gives what all gives from the start
+ends-so : {r : Run} {e : ℕ} (c : tie.At-loop Inv-loop μ-loop)
+    → let a = start c .args in
+    let l = c .loop in
+    let timers = meet (l .live) (getD (a .plan .now) timersWord 0) in
+    let here = endedRun (l .ends) (l .x) timers (l .i) (totalOf (l .total)) e (l .out) in
+    r ≡ here
+    → here ≡ ran (a .out .now) (sheetTicks (a .sheet .now) (a .inputs .now) (stateAt (a .sheet .now) (a .start .at) (dates c .deadlines .result) 0))
+    → record { run = r; numbers = l .numbers }
+    ≡ withNumbers (a .sheet .now) (stateOf (a .start)) (a .inputs .now) (a .numbers .now)
+    (ran (a .out .now) (sheetTicks (a .sheet .now) (a .inputs .now) (stateOf (a .start))))
+ends-so c r e = rw (from-start c) at (written-ends _ _ _ _ (c .loop .inv .0 .written) r refl e)
 
 -- the input set has no bit at k or above
 input-ok : (c : tie.Else1 Inv-loop μ-loop)
@@ -147,6 +174,23 @@ tick-is c =
     tick-of (at .loop .inv .0) (runs at) (due f .due-from .ensures .0) (start at .pre .0 .passes) (input-below _ _ (input-ok (known (due f))))
     (f .before .start-from .ensures) (f .first-triggered .ensures) (c .rounds .ensures)
 
+-- the numbers put are the tick's
+abbrev row : tie.After-first-triggered Inv-loop μ-loop → List ℕ
+row f =
+    let at = head f in
+    let a = start at .args in
+    rowFrom 0 64 (firedBy (a .sheet .now) (suc (tOf (a .sheet .now))) (getD (a .inputs .now) (at .loop .i) 0)
+    (startSets (f .before .start-from .result)) (f .first-triggered .result))
+
+numbers-are : (f : tie.After-first-triggered Inv-loop μ-loop)
+    → let at = head f in
+    let a = start at .args in
+    row f ≡ tickNumbers (a .sheet .now) (at .loop .x) (due f .due-from .result .set) (getD (a .inputs .now) (at .loop .i) 0)
+numbers-are f =
+    let at = head f in
+    numbers-of (at .loop .inv .0) (runs at) (due f .due-from .ensures .0) (start at .pre .0 .passes) (input-below _ _ (input-ok (known (due f))))
+    (f .before .start-from .ensures) (f .first-triggered .ensures)
+
 -- ---- the needs
 
 element-copy-out-timers : tie.Need-element-copy-out-timers Inv-loop μ-loop
@@ -170,7 +214,7 @@ loop-holds c =
     let s = begun d in
     let a = s .args in (
       start-modes (a .sheet .now) (sound _ (s .pre .0 .passes)) (stateOf (a .start)) (s .pre .2)
-          (d .deadlines .ensures) (search needs) (c .before .from-set .ensures) (s .pre .3),
+          (d .deadlines .ensures) (search needs) (c .before .from-set .ensures) (s .pre .3) (s .pre .4),
       omega arith,
     )
 
@@ -189,14 +233,17 @@ ended-requires c κs = not-past (c .before .before .before .before)
 same-length : tie.Need-same-length Inv-loop μ-loop
 same-length c = search needs
 
+same-length-2 : tie.Need-same-length-2 Inv-loop μ-loop
+same-length-2 c = search needs
+
 returns : tie.Need-returns Inv-loop μ-loop
 returns c =
     let foreign = c .before .before in
     let in-turn = foreign .before .before in
     let at = in-turn .before in
     let input = getD (start at .args .inputs .now) (at .loop .i) 0 in (
-      c .ended .ensures .0 (at .loop .out)
-          ∙ rw (from-start at) at (ends-foreign (at .loop .inv .0 .timed) (runs at) (in-turn .loop-test .taken)
+      ends-so at (c .ended .ensures .0 (at .loop .out))
+          (ends-foreign (at .loop .inv .0 .timed) (runs at) (in-turn .loop-test .taken)
           (λ e. foreign .if1 .taken (ap (λ (k : ℕ). input / 2 ^ k) (count-is at) ∙ e))),
       omega (arith, c .ended .ensures .1, at .loop .inv .1),
     )
@@ -220,30 +267,24 @@ first-triggered-requires c κs =
 
 -- ---- the needs where nothing is triggered
 
-mul-put-five : tie.Need-mul-put-five Inv-loop μ-loop
-mul-put-five c = omega (arith, short (inside (still (c .before))))
-
-quiet-words-requires : tie.Need-quiet-words-requires Inv-loop μ-loop
-quiet-words-requires c κs = search needs
-
-put-five-requires : tie.Need-put-five-requires Inv-loop μ-loop
-put-five-requires c κs =
-    let on = inside (still (quiet c)) in
-    omega (arith, on .loop-test .taken, on .before .loop .inv .0 .timed .reached .room)
+put-quiet-requires : tie.Need-put-quiet-requires Inv-loop μ-loop
+put-quiet-requires c κs =
+    let on = inside (still (c .before .before)) in
+    (omega (arith, on .loop-test .taken, on .before .loop .inv .0 .timed .reached .room), omega (arith, on .loop-test .taken, on .before .loop .inv .0 .written .room))
 
 loop-less : tie.Need-loop-less Inv-loop μ-loop
-loop-less c = omega (arith, inside (still (quiet (quiet-put c .before))) .loop-test .taken)
+loop-less c = omega (arith, inside (still (quiet (quiet-put c))) .loop-test .taken)
 
 loop-again : tie.Need-loop-again Inv-loop μ-loop
 loop-again c =
     let out = quiet-put c in
-    let none = quiet (out .before) in
+    let none = quiet out in
     let f = still none in
     let at = head f in (
       next-quiet (at .loop .inv .0) (runs at) (due f .due-from .ensures .0) (inside f .loop-test .taken) (input-ok (known (due f)))
           (f .before .start-from .ensures) (f .first-triggered .ensures) (none .before .if2 .taken)
           (eqb-false (at .loop .x) 0 (not-true (eqb (at .loop .x) 0) (none .if3 .taken))) (due f .due-from .ensures .1)
-          (out .put-five .ensures ∙ ap (over (at .loop .out) (5 * at .loop .i)) (out .before .quiet-words .ensures)),
+          (out .put-quiet .ensures .0) (out .put-quiet .ensures .1),
       at .loop .inv .1,
     )
 
@@ -262,8 +303,11 @@ number-requires c κs = search needs
 ended-requires-2 : tie.Need-ended-requires-2 Inv-loop μ-loop
 ended-requires-2 c κs = not-past (head (first (c .before .before .before)))
 
-same-length-2 : tie.Need-same-length-2 Inv-loop μ-loop
-same-length-2 c = omega (arith, head (first (c .before .before .before .before)) .loop .inv .0 .timed .reached .same)
+same-length-3 : tie.Need-same-length-3 Inv-loop μ-loop
+same-length-3 c = omega (arith, head (first (c .before .before .before .before)) .loop .inv .0 .timed .reached .same)
+
+same-length-4 : tie.Need-same-length-4 Inv-loop μ-loop
+same-length-4 c = omega (arith, head (first (c .before .before .before .before)) .loop .inv .0 .written .same)
 
 returns-2 : tie.Need-returns-2 Inv-loop μ-loop
 returns-2 c =
@@ -271,8 +315,8 @@ returns-2 c =
     let o = refused .before .before in
     let f = first o in
     let at = head f in (
-      c .ended2 .ensures .0 (at .loop .out)
-          ∙ rw (from-start at) at (tick-refused (at .loop .inv .0) (runs at) (due f .due-from .ensures .0) (inside f .loop-test .taken)
+      ends-so at (c .ended2 .ensures .0 (at .loop .out))
+          (tick-refused (at .loop .inv .0) (runs at) (due f .due-from .ensures .0) (inside f .loop-test .taken)
           (input-ok (known (due f))) (tick-is o) (λ e. refused .if4 .taken (refused .before .number .ensures ∙ e))),
       omega (arith, c .ended2 .ensures .1, at .loop .inv .1),
     )
@@ -293,28 +337,48 @@ restart-requires c κs =
     let at = head f in
     (at .loop .inv .0 .timed .long, omega (arith, short (inside f)), λ t l. delay-word _ (start at .pre .1) t l (sheet-sound at))
 
-mul-put-five-2 : tie.Need-mul-put-five-2 Inv-loop μ-loop
-mul-put-five-2 c = omega (arith, short (inside (triggers (left (c .before)))))
+mul-put-five : tie.Need-mul-put-five Inv-loop μ-loop
+mul-put-five c = omega (arith, short (inside (triggers (left (c .before)))))
 
 five-words-requires : tie.Need-five-words-requires Inv-loop μ-loop
 five-words-requires c κs = search needs
 
-put-five-requires-2 : tie.Need-put-five-requires-2 Inv-loop μ-loop
-put-five-requires-2 c κs =
+put-five-requires : tie.Need-put-five-requires Inv-loop μ-loop
+put-five-requires c κs =
     let on = inside (triggers (left (moved c))) in
     omega (arith, on .loop-test .taken, on .before .loop .inv .0 .timed .reached .room)
 
+mul-put-numbers : tie.Need-mul-put-numbers Inv-loop μ-loop
+mul-put-numbers c = omega (arith, short (inputs-left (c .before)))
+
+put-numbers-requires : tie.Need-put-numbers-requires Inv-loop μ-loop
+put-numbers-requires c κs =
+    let ok = leaves (c .before) .before in
+    let o = reacted ok in
+    let f = first o in
+    let on = inside f in
+    let p = start (on .before) .pre .0 in
+    let low = input-below _ _ (input-ok (known (due f))) in (
+      p,
+      begun-of _ (p .passes) (begins f) low (f .first-triggered .ensures),
+      low,
+      o .rounds .ensures,
+      sym (ok .before .number .ensures) ∙ ok .if4 .left,
+      omega (arith, on .loop-test .taken, on .before .loop .inv .0 .written .room),
+    )
+
 with-rounds-requires : tie.Need-with-rounds-requires Inv-loop μ-loop
 with-rounds-requires c κs =
-    let on = inputs-left c in
+    let on = inputs-left (numbered c .before .before) in
     (omega (arith, short on, on .before .loop .inv .0 .few), on .before .loop .inv .1)
 
 loop-less-2 : tie.Need-loop-less-2 Inv-loop μ-loop
-loop-less-2 c = omega (arith, inputs-left (c .before) .loop-test .taken)
+loop-less-2 c = omega (arith, inputs-left (numbered (c .before) .before .before) .loop-test .taken)
 
 loop-again-2 : tie.Need-loop-again-2 Inv-loop μ-loop
 loop-again-2 c =
-    let out = put (c .before) in
+    let named = numbered (c .before) in
+    let out = put (named .before .before) in
     let dates = moved (out .before) in
     let leaves = left dates in
     let ok = leaves .before in
@@ -322,8 +386,9 @@ loop-again-2 c =
     let f = first o in
     let at = head f in (
       next-turn (at .loop .inv .0) (runs at) (due f .due-from .ensures .0) (inside f .loop-test .taken) (input-ok (known (due f)))
-          (tick-is o) (sym (ok .before .number .ensures) ∙ ok .if4 .left)
-          (out .put-five2 .ensures ∙ ap (over (at .loop .out) (5 * at .loop .i)) (out .before .five-words .ensures))
+          (tick-is o) (sym (ok .before .number .ensures) ∙ ok .if4 .left) {row = row f}
+          (out .put-five .ensures) (out .before .five-words .ensures)
+          (named .put-numbers .ensures) (numbers-are f)
           (leaves .left-by .ensures .0) (c .with-rounds .ensures .0)
           (leaves .left-by .ensures .1) (start at .pre .1) (dates .restart .ensures) (λ t h l. zero-le),
       c .with-rounds .ensures .1,
@@ -332,14 +397,17 @@ loop-again-2 c =
 ended-requires-3 : tie.Need-ended-requires-3 Inv-loop μ-loop
 ended-requires-3 c κs = not-past (c .before .before)
 
-same-length-3 : tie.Need-same-length-3 Inv-loop μ-loop
-same-length-3 c = search needs
+same-length-5 : tie.Need-same-length-5 Inv-loop μ-loop
+same-length-5 c = search needs
+
+same-length-6 : tie.Need-same-length-6 Inv-loop μ-loop
+same-length-6 c = search needs
 
 returns-3 : tie.Need-returns-3 Inv-loop μ-loop
 returns-3 c =
     let over = c .before .before in
     let at = over .before in (
-      c .ended3 .ensures .0 (at .loop .out) ∙ rw (from-start at) at (ends-done (at .loop .inv .0 .timed) (runs at) (over .loop-test .left)),
+      ends-so at (c .ended3 .ensures .0 (at .loop .out)) (ends-done (at .loop .inv .0 .timed) (runs at) (over .loop-test .left)),
       omega (arith, c .ended3 .ensures .1, at .loop .inv .1),
     )
 
@@ -347,8 +415,8 @@ pub ticks-spec : {M : Type 1} → statement M
 ticks-spec =
     tie.close
     (tie.spec Inv-loop μ-loop element-copy-out-timers event-count-requires deadlines-requires from-set-requires
-    start-of-requires loop-holds mul-input shared-slice-read-input shr-if1 ended-requires same-length returns add-now
-    due-from-requires start-from-requires first-triggered-requires mul-put-five quiet-words-requires put-five-requires
-    rounds-requires number-requires ended-requires-2 same-length-2 returns-2 left-by-requires restart-requires
-    mul-put-five-2 five-words-requires put-five-requires-2 with-rounds-requires loop-less loop-again loop-less-2
-    loop-again-2 ended-requires-3 same-length-3 returns-3)
+    start-of-requires loop-holds mul-input shared-slice-read-input shr-if1 ended-requires same-length same-length-2 returns
+    add-now due-from-requires start-from-requires first-triggered-requires put-quiet-requires rounds-requires
+    number-requires ended-requires-2 same-length-3 same-length-4 returns-2 left-by-requires restart-requires mul-put-five
+    five-words-requires put-five-requires mul-put-numbers put-numbers-requires with-rounds-requires loop-less loop-again
+    loop-less-2 loop-again-2 ended-requires-3 same-length-5 same-length-6 returns-3)
