@@ -30,29 +30,11 @@ Inv-loop sheet plan begun entered first input o numbers₀ at hits mixed z₀ ts
 abbrev μ-loop : tie.MeasureT-loop
 μ-loop sheet plan begun entered first input o numbers₀ at hits mixed z₀ ts₀ r₀ numbers z ts r = o .rounds - r
 
-wide-requires : tie.Need-wide-requires Inv-loop μ-loop
-wide-requires c κs = search needs
-
-add-hits : tie.Need-add-hits Inv-loop μ-loop
-add-hits c = search needs
-
-mul-hits : tie.Need-mul-hits Inv-loop μ-loop
-mul-hits c = search needs
-
-element-copy-out-hits : tie.Need-element-copy-out-hits Inv-loop μ-loop
-element-copy-out-hits c =
-    let b = c .before .before .before in
-    omega (arith, c .wide .ensures, input-lt _ _ (b .pre .0 .passes) (b .pre .2))
+hits-requires : tie.Need-hits-requires Inv-loop μ-loop
+hits-requires c κs = let b = c .before .before in (b .pre .0, b .pre .2)
 
 element-copy-out-mixed : tie.Need-element-copy-out-mixed Inv-loop μ-loop
 element-copy-out-mixed c = search needs
-
--- the plan's word for the input set
-hits-at : (c : tie.After-wide Inv-loop μ-loop) → getD (c .before .before .before .args .plan .now) (hitsPart + c .wide .result) 0
-    ≡ hitsOf (c .before .before .before .args .sheet .now) (c .before .before .before .args .input)
-hits-at c =
-    let b = c .before .before .before in
-    ap (λ (w : ℕ). getD (b .args .plan .now) (hitsPart + w) 0) (c .wide .ensures) ∙ b .pre .0 .hitsAt (b .args .input) (b .pre .2)
 
 put-zeros-requires : tie.Need-put-zeros-requires Inv-loop μ-loop
 put-zeros-requires c κs = search needs
@@ -60,7 +42,7 @@ put-zeros-requires c κs = search needs
 -- before the loop: what is known at entry, and the list with 0 for each of the tick's numbers
 module _ (c : tie.After-slice-known2 Inv-loop μ-loop) where
   abbrev entry : tie.Start Inv-loop μ-loop
-  entry = c .before .before .before .before .before .before .before .before .before
+  entry = c .before .before .before .before .before .before .before .before
 
   abbrev cleared : List ℕ
   cleared = c .before .before .put-zeros .last .0
@@ -73,11 +55,11 @@ module _ (c : tie.After-slice-known2 Inv-loop μ-loop) where
       numbered-none (a .sheet .now) (a .begun) (a .entered) (a .first) (a .input) (a .numbers .now) (a .at) (c .before .before .put-zeros .ensures)
 
   room : entry .args .at + 64 ≤ length cleared
-  room = omega (arith, entry .pre .5, row-length (entry .args .numbers .now) (entry .args .at) 64 _ (entry .pre .5) laid)
+  room = omega (arith, entry .pre .4, row-length (entry .args .numbers .now) (entry .args .at) 64 _ (entry .pre .4) laid)
 
   -- a row laid over it is laid over the list as it was
   laid-over : (g : ℕ → ℕ) → over cleared (entry .args .at) (rowFrom 0 64 g) ≡ over (entry .args .numbers .now) (entry .args .at) (rowFrom 0 64 g)
-  laid-over = row-again (entry .args .numbers .now) (entry .args .at) 64 _ (entry .pre .5) laid
+  laid-over = row-again (entry .args .numbers .now) (entry .args .at) 64 _ (entry .pre .4) laid
 
 loop-holds : tie.Need-loop-holds Inv-loop μ-loop
 loop-holds c =
@@ -147,7 +129,7 @@ loop-again c =
     let a = b .args in
     let after = c .before .before .before .after-round .ensures in (
       round-next (k .loop .inv .0) (more e) (e .round-of .ensures) (b .pre .0 .passes) (b .pre .2)
-          (hits-at (k .before .before .before .before .before .before .before)) (b .pre .0 .judgedAt) after (c .triggered .ensures),
+          (k .before .before .before .before .before .before .hits .ensures) (b .pre .0 .judgedAt) after (c .triggered .ensures),
       round-laid (k .loop .inv .0) (more e) (e .round-of .ensures) after (cleared (k .before)) (a .at) (room (k .before)) (k .loop .inv .1)
           (p .put-causes .ensures),
     )
@@ -183,7 +165,7 @@ returns c =
 same-length : tie.Need-same-length Inv-loop μ-loop
 same-length c =
     let b = known (end (c .before .before .before .before)) in
-    row-length (b .args .numbers .now) (b .args .at) 64 _ (b .pre .5) (returns c)
+    row-length (b .args .numbers .now) (b .args .at) 64 _ (b .pre .4) (returns c)
 
 pub put-numbers-spec : {M : Type 1} → statement M
 put-numbers-spec =
@@ -191,10 +173,7 @@ put-numbers-spec =
     (tie.spec
     Inv-loop
     μ-loop
-    wide-requires
-    add-hits
-    mul-hits
-    element-copy-out-hits
+    hits-requires
     element-copy-out-mixed
     put-zeros-requires
     loop-holds

@@ -25,44 +25,26 @@ abbrev μ-loop : tie.MeasureT-loop
 transition-count-requires : tie.Need-transition-count-requires Inv-loop μ-loop
 transition-count-requires c κs = sound (c .before .args .sheet .now) (c .before .pre .0 .passes) .head
 
-wide-requires : tie.Need-wide-requires Inv-loop μ-loop
-wide-requires c κs = search needs
-
-add-hits : tie.Need-add-hits Inv-loop μ-loop
-add-hits c = search needs
-
-mul-hits : tie.Need-mul-hits Inv-loop μ-loop
-mul-hits c = search needs
-
-element-copy-out-hits : tie.Need-element-copy-out-hits Inv-loop μ-loop
-element-copy-out-hits c =
-    let b = c .before .before .before in
-    omega (arith, c .wide .ensures, input-lt _ _ (b .pre .0 .passes) (b .pre .2))
+hits-requires : tie.Need-hits-requires Inv-loop μ-loop
+hits-requires c κs = let b = c .before .before in (b .pre .0, b .pre .2)
 
 element-copy-out-mixed : tie.Need-element-copy-out-mixed Inv-loop μ-loop
 element-copy-out-mixed c = search needs
 
--- the plan's word for the input set
-hits-at : (c : tie.After-wide Inv-loop μ-loop) → getD (c .before .before .before .args .plan .now) (hitsPart + c .wide .result) 0
-    ≡ hitsOf (c .before .before .before .args .sheet .now) (c .before .before .before .args .input)
-hits-at c =
-    let b = c .before .before .before in
-    ap (λ (w : ℕ). getD (b .args .plan .now) (hitsPart + w) 0) (c .wide .ensures) ∙ b .pre .0 .hitsAt (b .args .input) (b .pre .2)
-
 loop-holds : tie.Need-loop-holds Inv-loop μ-loop
 loop-holds c =
-    let b = c .before .before .before .before .before in
+    let b = c .before .before .before .before in
     left-start (b .args .sheet .now) (b .args .begun) (b .args .entered) (b .args .first) (b .args .input) (b .fits .entered .fits) (b .pre .1)
 
-wide-requires-2 : tie.Need-wide-requires-2 Inv-loop μ-loop
-wide-requires-2 c κs = search needs
+wide-requires : tie.Need-wide-requires Inv-loop μ-loop
+wide-requires c κs = search needs
 
 ended-requires : tie.Need-ended-requires Inv-loop μ-loop
 ended-requires c κs = search needs
 
 -- what is known at entry, from the round on
 abbrev entry : tie.After-round-of Inv-loop μ-loop → tie.Start Inv-loop μ-loop
-entry e = e .before .before .before .before .before .before .before .before .before .before
+entry e = e .before .before .before .before .before .before .before .before .before
 
 within : (e : tie.After-round-of Inv-loop μ-loop) → e .before .before .before .before .loop .r ≤ tOf (entry e .args .sheet .now)
 within e = omega arith
@@ -72,7 +54,7 @@ returns c = round-still (c .before .before .before .before .loop .inv) (omega ar
 
 round-of-requires : tie.Need-round-of-requires Inv-loop μ-loop
 round-of-requires c κs =
-    let b = c .before .before .before .before .before .before .before .before .before in
+    let b = c .before .before .before .before .before .before .before .before in
     let l = c .before .before .before .loop in
     (b .pre .0, rw (l .inv .triggers) (triggered-small (b .args .sheet .now) (l .inv .due) (b .args .input) (setsOf (b .args .begun) (l .z))))
 
@@ -126,7 +108,7 @@ loop-again c =
     round-by (e .before .before .before .before .loop .inv) (within e) (b .pre .0 .passes) (e .before .if2 .left) (e .round-of .ensures)
     (sym (c .before .before .before .before .before .before .before .meets .ensures) ∙ c .before .before .before .before .before .before .if3 .left)
     (sym (c .before .before .before .before .before .meets2 .ensures) ∙ c .before .before .before .before .if4 .left)
-    (b .pre .2) (hits-at (e .before .before .before .before .before .before .before)) (b .pre .0 .judgedAt) (c .before .before .before .after-round .ensures)
+    (b .pre .2) (e .before .before .before .before .before .before .hits .ensures) (b .pre .0 .judgedAt) (c .before .before .before .after-round .ensures)
     (c .triggered .ensures)
 
 ended-requires-4 : tie.Need-ended-requires-4 Inv-loop μ-loop
@@ -134,7 +116,7 @@ ended-requires-4 c κs = search needs
 
 returns-4 : tie.Need-returns-4 Inv-loop μ-loop
 returns-4 c =
-    let b = c .before .before .before .before .before .before .before .before .before in
+    let b = c .before .before .before .before .before .before .before .before in
     left-none (b .args .sheet .now) (b .args .begun) (b .args .entered) (b .args .first) (b .args .input) (c .before .before .before .loop .inv)
     (omega arith) (c .ended4 .ensures)
 
@@ -145,13 +127,10 @@ rounds-spec =
     Inv-loop
     μ-loop
     transition-count-requires
-    wide-requires
-    add-hits
-    mul-hits
-    element-copy-out-hits
+    hits-requires
     element-copy-out-mixed
     loop-holds
-    wide-requires-2
+    wide-requires
     ended-requires
     returns
     round-of-requires
