@@ -353,8 +353,7 @@ mul-put-numbers c = omega (arith, short (inputs-left (c .before)))
 
 put-numbers-requires : tie.Need-put-numbers-requires Inv-loop μ-loop
 put-numbers-requires c κs =
-    let ok = leaves (c .before) .before in
-    let o = reacted ok in
+    let o = reacted (leaves (c .before) .before) in
     let f = first o in
     let on = inside f in
     let p = start (on .before) .pre .0 in
@@ -363,7 +362,6 @@ put-numbers-requires c κs =
       begun-of _ (p .passes) (begins f) low (f .first-triggered .ensures),
       low,
       o .rounds .ensures,
-      sym (ok .before .number .ensures) ∙ ok .if4 .left,
       omega (arith, on .loop-test .taken, on .before .loop .inv .0 .written .room),
     )
 
