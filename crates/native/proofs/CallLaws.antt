@@ -13,12 +13,12 @@ use lib.Seq.{sets, sets-eq, paste, paste-suc, take-all}
 use borrow.Author.Tests.{eqb-true, eqb-false, lt-ltb, le-ltb}
 use Rattle.meaning.specs.Lists.{overwritten}
 use Rattle.meaning.specs.Run.{State, Run}
-use Rattle.meaning.specs.SheetRun.{sheetRun}
+use Rattle.meaning.specs.SheetRun.{NumberedRun, sheetRun}
 use Rattle.meaning.specs.TableRun.{tableRun}
 use Rattle.meaning.specs.Compile.{Compiled, compile}
 use Rattle.meaning.specs.Within.{Masked, masksOf}
 use Rattle.run.specs.States.{wordsOf, stateIn}
-use Rattle.native.specs.Calls.{compileCall, WithinCall, withinCall, runCall, sheetCall, tableCall}
+use Rattle.native.specs.Calls.{compileCall, WithinCall, withinCall, callShort, RunCall, runCall, sheetCounts, sheetCall, tableCall}
 
 -- a row of stores at the front
 sets-front : (vs l : List ℕ) → length vs ≤ length l → sets l 0 vs ≡ overwritten vs l
@@ -67,31 +67,61 @@ module _ (sheet table work info : List ℕ) where
 
 -- ---- runs
 
+-- fewer words lent than asked for, in info or in the state; or enough
+module _ (counts state info : List ℕ) where
+  call-short : (length info < length counts) ⊎ (ltb (length state) 65 ≡ true) → callShort counts state info ≡ true
+  unfolding callShort
+  call-short (inl h) = rw (lt-ltb (length info) (length counts) h)
+  call-short (inr h) = rw (h, or-true)
+
+  call-enough : length counts ≤ length info → 65 ≤ length state → callShort counts state info ≡ false
+  unfolding callShort
+  call-enough h k = rw (le-ltb (length info) (length counts) h, le-ltb (length state) 65 k)
+
 module _ (o : Run) (counts state out info : List ℕ) where
-  -- fewer words lent than asked for, in info or in the state
   pub run-nothing : (length info < length counts) ⊎ (ltb (length state) 65 ≡ true)
       → record { answer = 4294967295; state = state; out = out; info = info } ≡ runCall o counts state out info
   unfolding runCall
-  run-nothing (inl h) = rw (lt-ltb (length info) (length counts) h)
-  run-nothing (inr h) = rw (h, or-true)
+  run-nothing h = rw (call-short counts state info h)
 
   -- the state and the counts put into lent words
   pub run-answered : length counts ≤ length info → 65 ≤ length state → (answer : ℕ) (words : List ℕ)
       → answer ≡ o .refusal → words ≡ overwritten (wordsOf (o .state)) state
       → record { answer = answer; state = words; out = o .out; info = sets info 0 counts } ≡ runCall o counts state out info
   unfolding runCall
-  run-answered h k answer words a w = rw (le-ltb (length info) (length counts) h, le-ltb (length state) 65 k, a, w, sets-front counts info h)
+  run-answered h k answer words a w = rw (call-enough counts state info h k, a, w, sets-front counts info h)
 
--- o: what was run from the state q that the words hold
-module _ (sheet state inputs out info : List ℕ) (o : Run) (q : State) (qe : q ≡ stateIn state) (e : o ≡ sheetRun sheet q inputs out) where
-  pub sheet-call : (whole low : ℕ) → o .rounds ≡ whole * 2 ^ 32 + low → low < 2 ^ 32
-      → runCall o (o .done ∷ whole ∷ low ∷ []) state out info ≡ sheetCall sheet state inputs out info
+-- the counts of a sheet run, its rounds as whole times 2^32 and the rest
+counted : (o : Run) (whole low : ℕ) → o .rounds ≡ whole * 2 ^ 32 + low → low < 2 ^ 32 → o .done ∷ whole ∷ low ∷ [] ≡ sheetCounts o
+unfolding sheetCounts
+counted o whole low n l =
+    let p : whole ≡ o .rounds / 2 ^ 32 = omega arith in
+    let r : low ≡ o .rounds % 2 ^ 32 = omega arith in
+    rw (p, r)
+
+-- the sheet run: its numbers too
+module _ (sheet state inputs out numbers info : List ℕ) where
+  pub sheet-nothing : (length info < 3) ⊎ (ltb (length state) 65 ≡ true)
+      → record { call = record { answer = 4294967295; state = state; out = out; info = info }; numbers = numbers }
+      ≡ sheetCall sheet state inputs out numbers info
+  unfolding sheetCall runCall sheetCounts
+  sheet-nothing h = rw (call-short (sheetCounts (sheetRun sheet (stateIn state) inputs out numbers .run)) state info h)
+
+  -- o: what was run from the state q that the words hold
+  pub sheet-answered : 3 ≤ length info → 65 ≤ length state → (o : NumberedRun) (q : State) → q ≡ stateIn state → o ≡ sheetRun sheet q inputs out numbers
+      → (whole low : ℕ) → o .run .rounds ≡ whole * 2 ^ 32 + low → low < 2 ^ 32 → (answer : ℕ) (words : List ℕ)
+      → answer ≡ o .run .refusal → words ≡ overwritten (wordsOf (o .run .state)) state
+      → record {
+        call = record { answer = answer; state = words; out = o .run .out; info = sets info 0 (o .run .done ∷ whole ∷ low ∷ []) };
+        numbers = o .numbers;
+      }
+      ≡ sheetCall sheet state inputs out numbers info
   unfolding sheetCall
-  sheet-call whole low n l =
-      let p : whole ≡ o .rounds / 2 ^ 32 = omega arith in
-      let r : low ≡ o .rounds % 2 ^ 32 = omega arith in
-      let f : o ≡ sheetRun sheet (stateIn state) inputs out = e ∙ ap (λ (x : State). sheetRun sheet x inputs out) qe in
-      rw (p, r, ← f) refl
+  sheet-answered h k o q qe e whole low n l answer words a w =
+      let f : o ≡ sheetRun sheet (stateIn state) inputs out numbers = e ∙ ap (λ (x : State). sheetRun sheet x inputs out numbers) qe in
+      let c : o .run .done ∷ whole ∷ low ∷ [] ≡ sheetCounts (o .run) = counted (o .run) whole low n l in
+      rw (← f, ← c, call-enough (o .run .done ∷ whole ∷ low ∷ []) state info h k)
+      (ap (λ (x : RunCall). record { call = x; numbers = o .numbers }) (run-answered (o .run) (o .run .done ∷ whole ∷ low ∷ []) state out info h k answer words a w))
 
 module _ (table state inputs out info : List ℕ) (o : Run) (q : State) (qe : q ≡ stateIn state) (e : o ≡ tableRun table q inputs out) where
   pub table-call : runCall o (o .done ∷ []) state out info ≡ tableCall table state inputs out info
