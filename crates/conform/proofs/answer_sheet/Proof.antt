@@ -29,6 +29,12 @@ accept-table-requires c κs = search needs
 next-requires-3 : tie.Need-next-requires-3
 next-requires-3 c κs = search needs
 
+alternatives-requires : tie.Need-alternatives-requires
+alternatives-requires c κs = search needs
+
+next-requires-4 : tie.Need-next-requires-4
+next-requires-4 c κs = search needs
+
 answer-table-requires : tie.Need-answer-table-requires
 answer-table-requires c κs = search needs
 
@@ -44,15 +50,18 @@ same-length c = search needs
 returns-3 : tie.Need-returns-3
 returns-3 c = search (needs, within-le)
 
+returns-4 : tie.Need-returns-4
+returns-4 c = search (needs, within-le)
+
 same-length-2 : tie.Need-same-length-2
 same-length-2 c = search needs
 
-returns-4 : tie.Need-returns-4
-returns-4 c = search needs
+returns-5 : tie.Need-returns-5
+returns-5 c = search needs
 
 pub answer-sheet-spec : {M : Type 1} → statement M
 answer-sheet-spec =
     tie.close
     (tie.spec sheet-run-requires next-requires masks-requires next-requires-2 slice-reshare-prefix-accept-table
-    slice-aggregate-accept-table accept-table-requires next-requires-3 answer-table-requires returns returns-2
-    same-length returns-3 same-length-2 returns-4)
+    slice-aggregate-accept-table accept-table-requires next-requires-3 alternatives-requires next-requires-4
+    answer-table-requires returns returns-2 same-length returns-3 returns-4 same-length-2 returns-5)
