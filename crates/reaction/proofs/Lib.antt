@@ -1,4 +1,5 @@
 pub mod RowLaws
+pub mod StoredLaws
 pub mod PlanLaws
 pub mod TermLaws
 pub mod CauseLaws

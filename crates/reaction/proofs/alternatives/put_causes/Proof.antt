@@ -14,7 +14,8 @@ use Rattle.sets.proofs.Members.{Turn, turn}
 use Rattle.sets.proofs.Those.{Subset, subset-turn}
 use Rattle.reaction.specs.Causes.{causeBy, cause}
 use Rattle.reaction.specs.Rounds.{setsOf}
-use Rattle.reaction.proofs.CauseLaws.{cause-by, stored, stored-turn, stored-done, stored-same}
+use Rattle.reaction.proofs.CauseLaws.{cause-by}
+use Rattle.reaction.proofs.StoredLaws.{stored, stored-turn, stored-done, stored-same}
 use Rattle.reaction.proofs.alternatives.put_causes.Statement.{statement}
 use Rattle.reaction.proofs.alternatives.put_causes.Tie as tie
 
