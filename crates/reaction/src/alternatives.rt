@@ -19,6 +19,7 @@ use super::terms::alternative;
 use super::terms::facts;
 use super::terms::is_delay;
 use super::tick::Sets;
+use super::tick::Start;
 use super::tick::Ticked;
 use super::tick::after_round;
 use super::tick::round_of;
@@ -68,30 +69,32 @@ fn put_causes(
     }
 }
 
-// The 64 numbers of a tick. Its rounds but the last are gone through once more; the last took what was not taken before.
+// The 64 numbers of a tick that begins with b. Its rounds but the last are gone through once more; the last took what was not taken
+// before.
 pub fn put_numbers(
     sheet: &[u32],
     plan: &Plan,
-    begun: u32,
-    entered: u32,
+    b: Start,
     first: u64,
     input: u32,
     o: Ticked,
     numbers: &mut [u8],
     at: usize,
 )
-    requires { ⌜ Planned (now sheet) (now plan) × Begun (now sheet) begun entered first input × (input < 2 ^ kOf (now sheet))
-        × (tickOf begun o ≡ roundsBy (now sheet) (suc (tOf (now sheet))) input (setsOf begun (firstSets begun entered)) first 0)
+    requires { ⌜ Planned (now sheet) (now plan) × Begun (now sheet) (b .begun) (b .entered) first input × (input < 2 ^ kOf (now sheet))
+        × (tickOf (b .begun) o
+        ≡ roundsBy (now sheet) (suc (tOf (now sheet))) input (setsOf (b .begun) (firstSets (b .begun) (b .entered))) first 0)
         × (at + 64 ≤ length (now numbers)) ⌝ }
     ensures { λ _. ⌜ now (numbers .exit)
         ≡ over (now (numbers .entry)) at (rowFrom 0 64
-        (firedBy (now (sheet .entry)) (suc (tOf (now (sheet .entry)))) input (setsOf begun (firstSets begun entered)) first)) ⌝ }
+        (firedBy (now (sheet .entry)) (suc (tOf (now (sheet .entry)))) input (setsOf (b .begun) (firstSets (b .begun) (b .entered)))
+        first)) ⌝ }
 {
     let hits = hits(sheet, plan, input);
     let mixed = plan[MIXED];
     let mut z = Sets {
-        modes: begun,
-        entered,
+        modes: b.begun,
+        entered: b.entered,
         exited: 0,
         taken: 0,
     };
@@ -102,11 +105,11 @@ pub fn put_numbers(
         let round = round_of(sheet, plan, ts);
         let es = round.chosen;
         let m = round.moves;
-        put_causes(sheet, es, z, begun, input, numbers, at);
+        put_causes(sheet, es, z, b.begun, input, numbers, at);
         z = after_round(z, m.ends, es);
-        ts = triggered(sheet, m.next & hits, m.next & mixed, z, begun, input);
+        ts = triggered(sheet, m.next & hits, m.next & mixed, z, b.begun, input);
         r += 1;
     }
     let last = transitions::minus(o.taken, z.taken);
-    put_causes(sheet, last, z, begun, input, numbers, at);
+    put_causes(sheet, last, z, b.begun, input, numbers, at);
 }

@@ -232,7 +232,7 @@ module _ {s inputs out₀ numbers₀ : List ℕ} {q₀ : State} {out numbers end
       unfolding numbersFrom
       numbers-now = ap (λ (y : ℕ). tickNumbers s x y input) due-is
 
-      module _ (n : r .refusal ≡ 0) {live′ total′ : ℕ} {out′ five numbers′ row : List ℕ} (oe : out′ ≡ over out (5 * i) five) (fe : five ≡ fiveWords (r .sets))
+      module _ (n : r .refusal ≡ 0) {live′ total′ : ℕ} {out′ numbers′ row : List ℕ} (oe : out′ ≡ over out (5 * i) (fiveWords (r .sets)))
           (ne : numbers′ ≡ over numbers (64 * i) row) (we : row ≡ tickNumbers s x d input) (le : live′ ≡ sourcesIn s (r .sets .modes)) (tt : total′ ≡ total + r .rounds) where
         -- the deadlines of the timers that start are set
         pub next-turn : {set : ℕ} {delays ends′ : List ℕ} → set ≡ meet (sourcesIn s (r .sets .entered)) (running s (r .sets .modes))
@@ -240,7 +240,7 @@ module _ {s inputs out₀ numbers₀ : List ℕ} {q₀ : State} {out numbers end
             → {soon′ : ℕ} → ((t : ℕ) → T (has (running s (r .sets .modes)) t) → i + 1 < getD ends′ t 0 → soon′ ≤ getD ends′ t 0)
             → ReachedModes s inputs out₀ numbers₀ q₀ out′ numbers′ ends′ (r .sets .modes) live′ soon′ total′ (i + 1)
         next-turn se ye ee later =
-            rw (oe, fe, ne, we, numbers-now, le, tt, tick-now)
+            rw (oe, ne, we, numbers-now, le, tt, tick-now)
             (next-modes (sym (ap (λ (y : Tick). y .refusal) tick-now) ∙ n) (rw tick-now at se) ye ee l b (rw tick-now at later))
 
     -- nothing is triggered in it: the modes and the deadlines stay, and none of those that run was due
@@ -253,7 +253,7 @@ module _ {s inputs out₀ numbers₀ : List ℕ} {q₀ : State} {out numbers end
     next-quiet l b st e z n {soon′} later oe ne =
         next-turn l b
         (ap (λ (y : TickSets). record { refusal = 0; sets = y; rounds = 0 }) (begins s x n) ∙ sym (tick-quiet s x d input none-first))
-        refl oe refl ne (sym (numbers-quiet s x d input none-first)) (k .sources) (sym (add-zero total)) refl refl same stays
+        refl oe ne (sym (numbers-quiet s x d input none-first)) (k .sources) (sym (add-zero total)) refl refl same stays
       where
         none-first : triggered s d input (begin s x) ≡ 0
         none-first = sym (ap (triggered s d input) (start-sets s st)) ∙ sym e ∙ z

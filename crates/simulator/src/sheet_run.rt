@@ -3,7 +3,7 @@ ghost use mathlib.Core.Path.{_≡_};
 ghost use mathlib.Core.Logic.{_⊎_};
 ghost use mathlib.Core.Bool.{true};
 ghost use mathlib.Core.List.{List, [], _∷_};
-ghost use Prim.Native.Nat.{ℕ, _+_, _*_, _%_, _^_, _≤_, _<_};
+ghost use Prim.Native.Nat.{ℕ, suc, _+_, _*_, _%_, _^_, _≤_, _<_};
 ghost use lib.Dec.{T};
 ghost use lib.ListN.{length, getD};
 ghost use Rattle.sets.specs.Sets.{has, meet};
@@ -12,10 +12,12 @@ ghost use Rattle.meaning.specs.Lists.{rowFrom};
 ghost use Rattle.meaning.specs.Refusal.{numberOf};
 ghost use Rattle.meaning.specs.Reaction.{running};
 ghost use Rattle.meaning.specs.Run.{ran};
-ghost use Rattle.meaning.specs.Sheet.{tOf};
+ghost use Rattle.meaning.specs.Sheet.{kOf, tOf};
+ghost use Rattle.meaning.specs.Tick.{fiveWords};
 ghost use Rattle.meaning.specs.SheetRun.{stateOk, sheetTicks, withNumbers, sheetRun};
 ghost use Rattle.reaction.specs.Plan.{Planned, sourcesIn, timerDelay};
-ghost use Rattle.reaction.specs.Rounds.{StartOf};
+ghost use Rattle.reaction.specs.Rounds.{setsOf, tickOf, firstSets, roundsBy, StartOf, Begun};
+ghost use Rattle.reaction.specs.Causes.{firedBy};
 ghost use Rattle.run.specs.States.{stateOf};
 ghost use Rattle.run.specs.Counts.{totalOf};
 ghost use Rattle.run.specs.Runs.{endedRun};
@@ -120,6 +122,36 @@ fn put_quiet(out: &mut [u32], numbers: &mut [u8], i: usize, x: u32)
     put_zeros(numbers, 64 * i);
 }
 
+// The words and the numbers of the tick o, set i of the list, that begins with b and the triggered transitions `first`.
+fn put_tick(
+    sheet: &[u32],
+    plan: &Plan,
+    b: Start,
+    first: u64,
+    input: u32,
+    o: Ticked,
+    out: &mut [u32],
+    numbers: &mut [u8],
+    i: usize,
+)
+    requires { ⌜
+        Planned (now sheet) (now plan)
+        × Begun (now sheet) (b .begun) (b .entered) first input
+        × (input < 2 ^ kOf (now sheet))
+        × (tickOf (b .begun) o
+        ≡ roundsBy (now sheet) (suc (tOf (now sheet))) input (setsOf (b .begun) (firstSets (b .begun) (b .entered))) first 0)
+        × (5 * i + 5 ≤ length (now out))
+        × (64 * i + 64 ≤ length (now numbers)) ⌝ }
+    ensures { λ _. ⌜
+        (now (out .exit) ≡ over (now (out .entry)) (5 * i) (fiveWords (tickOf (b .begun) o .sets)))
+        × (now (numbers .exit) ≡ over (now (numbers .entry)) (64 * i) (rowFrom 0 64
+        (firedBy (now (sheet .entry)) (suc (tOf (now (sheet .entry)))) input (setsOf (b .begun) (firstSets (b .begun) (b .entered)))
+        first))) ⌝ }
+{
+    put_five(out, 5 * i, five_words(b.begun, o));
+    put_numbers(sheet, plan, b, first, input, o, numbers, 64 * i);
+}
+
 // What a tick leaves: the transitions whose source is active, and the timers among them that start, whose source was entered.
 pub struct Left {
     pub live: u64,
@@ -199,18 +231,7 @@ fn ticks(
             }
             let left = left_by(sheet, plan, x, live, o);
             restart(delays, &mut ends, left.starts, now as u64);
-            put_five(out, 5 * i, five_words(from.begun, o));
-            put_numbers(
-                sheet,
-                plan,
-                from.begun,
-                from.entered,
-                first,
-                input,
-                o,
-                numbers,
-                64 * i,
-            );
+            put_tick(sheet, plan, from, first, input, o, out, numbers, i);
             total = with_rounds(total, o.rounds);
             x = o.modes;
             live = left.live;

@@ -24,11 +24,12 @@ use Rattle.reaction.proofs.alternatives.put_numbers.Statement.{statemen
 use Rattle.reaction.proofs.alternatives.put_numbers.Tie as tie
 
 abbrev Inv-loop : tie.InvT-loop
-Inv-loop sheet plan begun entered first input o numbers₀ at hits mixed z₀ ts₀ r₀ numbers z ts r =
-    Numbered sheet begun entered first input z ts r × (numbers ≡ over numbers₀ at (rowFrom 0 64 (numbered sheet begun entered first input z)))
+Inv-loop sheet plan b first input o numbers₀ at hits mixed z₀ ts₀ r₀ numbers z ts r =
+    Numbered sheet (b .begun) (b .entered) first input z ts r
+    × (numbers ≡ over numbers₀ at (rowFrom 0 64 (numbered sheet (b .begun) (b .entered) first input z)))
 
 abbrev μ-loop : tie.MeasureT-loop
-μ-loop sheet plan begun entered first input o numbers₀ at hits mixed z₀ ts₀ r₀ numbers z ts r = o .rounds - r
+μ-loop sheet plan b first input o numbers₀ at hits mixed z₀ ts₀ r₀ numbers z ts r = o .rounds - r
 
 hits-requires : tie.Need-hits-requires Inv-loop μ-loop
 hits-requires c κs = let b = c .before .before in (b .pre .0, b .pre .2)
@@ -49,10 +50,10 @@ module _ (c : tie.After-slice-known2 Inv-loop μ-loop) where
 
   -- none is taken yet
   laid : let a = entry .args in cleared
-      ≡ over (a .numbers .now) (a .at) (rowFrom 0 64 (numbered (a .sheet .now) (a .begun) (a .entered) (a .first) (a .input) (firstSets (a .begun) (a .entered))))
+      ≡ over (a .numbers .now) (a .at) (rowFrom 0 64 (numbered (a .sheet .now) (a .b .begun) (a .b .entered) (a .first) (a .input) (firstSets (a .b .begun) (a .b .entered))))
   laid =
       let a = entry .args in
-      numbered-none (a .sheet .now) (a .begun) (a .entered) (a .first) (a .input) (a .numbers .now) (a .at) (c .before .before .put-zeros .ensures)
+      numbered-none (a .sheet .now) (a .b .begun) (a .b .entered) (a .first) (a .input) (a .numbers .now) (a .at) (c .before .before .put-zeros .ensures)
 
   room : entry .args .at + 64 ≤ length cleared
   room = omega (arith, entry .pre .4, row-length (entry .args .numbers .now) (entry .args .at) 64 _ (entry .pre .4) laid)
@@ -64,7 +65,7 @@ module _ (c : tie.After-slice-known2 Inv-loop μ-loop) where
 loop-holds : tie.Need-loop-holds Inv-loop μ-loop
 loop-holds c =
     let a = entry c .args in (
-      numbered-start (a .sheet .now) (a .begun) (a .entered) (a .first) (a .input) (entry c .fits .entered .fits) (entry c .pre .1),
+      numbered-start (a .sheet .now) (a .b .begun) (a .b .entered) (a .first) (a .input) (search needs) (entry c .pre .1),
       laid c ∙ sym (laid-over c _),
     )
 
@@ -89,14 +90,14 @@ round-of-requires c κs =
     let k = c .before .before in
     let a = known k .args in
     let n = k .loop .inv .0 .left in
-    (known k .pre .0, rw (n .triggers) (triggered-small (a .sheet .now) (n .due) (a .input) (setsOf (a .begun) (k .loop .z))))
+    (known k .pre .0, rw (n .triggers) (triggered-small (a .sheet .now) (n .due) (a .input) (setsOf (a .b .begun) (k .loop .z))))
 
 -- a round that is not the last
 module _ (e : tie.After-round-of Inv-loop μ-loop) where
   abbrev turn : tie.At-loop Inv-loop μ-loop
   turn = e .before .before .before
 
-  more : let a = known turn .args in turn .loop .r < all (a .sheet .now) (a .begun) (a .entered) (a .first) (a .input) .rounds
+  more : let a = known turn .args in turn .loop .r < all (a .sheet .now) (a .b .begun) (a .b .entered) (a .first) (a .input) .rounds
   more = omega (arith, e .before .if1 .taken, ap (λ (t : Tick). t .rounds) (known turn .pre .3))
 
 put-causes-requires : tie.Need-put-causes-requires Inv-loop μ-loop
@@ -142,11 +143,11 @@ module _ (m : tie.After-minus Inv-loop μ-loop) where
   abbrev end : tie.At-loop Inv-loop μ-loop
   end = m .before .before .before
 
-  fewer : let a = known end .args in all (a .sheet .now) (a .begun) (a .entered) (a .first) (a .input) .rounds ≤ end .loop .r + 1
+  fewer : let a = known end .args in all (a .sheet .now) (a .b .begun) (a .b .entered) (a .first) (a .input) .rounds ≤ end .loop .r + 1
   fewer = omega (arith, m .before .if1 .left, ap (λ (t : Tick). t .rounds) (known end .pre .3))
 
   rest : let a = known end .args in
-      m .minus .result ≡ minus (all (a .sheet .now) (a .begun) (a .entered) (a .first) (a .input) .sets .taken) (end .loop .z .taken)
+      m .minus .result ≡ minus (all (a .sheet .now) (a .b .begun) (a .b .entered) (a .first) (a .input) .sets .taken) (end .loop .z .taken)
   rest = m .minus .ensures ∙ ap (λ (t : Tick). minus (t .sets .taken) (end .loop .z .taken)) (known end .pre .3)
 
 put-causes-requires-2 : tie.Need-put-causes-requires-2 Inv-loop μ-loop

@@ -80,8 +80,8 @@ still c = c .before .before
 abbrev quiet-put : tie.After-slice-known4 Inv-loop μ-loop → tie.After-put-quiet Inv-loop μ-loop
 quiet-put c = c .before .before .before .before
 
--- else: what is triggered first from the rounds; the rounds, not refused; what the tick leaves; the deadlines; the words put;
--- the numbers put
+-- else: what is triggered first from the rounds; the rounds, not refused; what the tick leaves; the deadlines; the words and numbers
+-- put
 abbrev first : tie.After-rounds Inv-loop μ-loop → tie.After-first-triggered Inv-loop μ-loop
 first c = c .before .before
 
@@ -91,22 +91,19 @@ reacted c = c .before .before
 abbrev left : tie.After-restart Inv-loop μ-loop → tie.After-left-by Inv-loop μ-loop
 left c = c .before .before
 
-abbrev moved : tie.After-five-words Inv-loop μ-loop → tie.After-restart Inv-loop μ-loop
-moved c = c .before .before
+abbrev moved : tie.After-put-tick Inv-loop μ-loop → tie.After-restart Inv-loop μ-loop
+moved c = c .before .before .before
 
-abbrev put : tie.After-slice-known5 Inv-loop μ-loop → tie.After-put-five Inv-loop μ-loop
-put c = c .before .before
-
-abbrev numbered : tie.After-slice-known6 Inv-loop μ-loop → tie.After-put-numbers Inv-loop μ-loop
-numbered c = c .before .before
+abbrev put : tie.After-slice-known6 Inv-loop μ-loop → tie.After-put-tick Inv-loop μ-loop
+put c = c .before .before .before .before
 
 abbrev triggers : tie.After-left-by Inv-loop μ-loop → tie.After-first-triggered Inv-loop μ-loop
 triggers c = first (reacted (c .before))
 
-abbrev leaves : tie.After-slice-known5 Inv-loop μ-loop → tie.After-left-by Inv-loop μ-loop
-leaves c = left (moved (put c .before))
+abbrev leaves : tie.After-slice-known6 Inv-loop μ-loop → tie.After-left-by Inv-loop μ-loop
+leaves c = left (moved (put c))
 
-abbrev inputs-left : tie.After-slice-known5 Inv-loop μ-loop → tie.In-loop Inv-loop μ-loop
+abbrev inputs-left : tie.After-slice-known6 Inv-loop μ-loop → tie.In-loop Inv-loop μ-loop
 inputs-left c = inside (triggers (leaves c))
 
 -- ---- what holds there
@@ -337,23 +334,9 @@ restart-requires c κs =
     let at = head f in
     (at .loop .inv .0 .timed .long, omega (arith, short (inside f)), λ t l. delay-word _ (start at .pre .1) t l (sheet-sound at))
 
-mul-put-five : tie.Need-mul-put-five Inv-loop μ-loop
-mul-put-five c = omega (arith, short (inside (triggers (left (c .before)))))
-
-five-words-requires : tie.Need-five-words-requires Inv-loop μ-loop
-five-words-requires c κs = search needs
-
-put-five-requires : tie.Need-put-five-requires Inv-loop μ-loop
-put-five-requires c κs =
-    let on = inside (triggers (left (moved c))) in
-    omega (arith, on .loop-test .taken, on .before .loop .inv .0 .timed .reached .room)
-
-mul-put-numbers : tie.Need-mul-put-numbers Inv-loop μ-loop
-mul-put-numbers c = omega (arith, short (inputs-left (c .before)))
-
-put-numbers-requires : tie.Need-put-numbers-requires Inv-loop μ-loop
-put-numbers-requires c κs =
-    let o = reacted (leaves (c .before) .before) in
+put-tick-requires : tie.Need-put-tick-requires Inv-loop μ-loop
+put-tick-requires c κs =
+    let o = reacted (left (c .before .before) .before) in
     let f = first o in
     let on = inside f in
     let p = start (on .before) .pre .0 in
@@ -362,22 +345,22 @@ put-numbers-requires c κs =
       begun-of _ (p .passes) (begins f) low (f .first-triggered .ensures),
       low,
       o .rounds .ensures,
+      omega (arith, on .loop-test .taken, on .before .loop .inv .0 .timed .reached .room),
       omega (arith, on .loop-test .taken, on .before .loop .inv .0 .written .room),
     )
 
 with-rounds-requires : tie.Need-with-rounds-requires Inv-loop μ-loop
 with-rounds-requires c κs =
-    let on = inputs-left (numbered c .before .before) in
+    let on = inputs-left c in
     (omega (arith, short on, on .before .loop .inv .0 .few), on .before .loop .inv .1)
 
 loop-less-2 : tie.Need-loop-less-2 Inv-loop μ-loop
-loop-less-2 c = omega (arith, inputs-left (numbered (c .before) .before .before) .loop-test .taken)
+loop-less-2 c = omega (arith, inputs-left (c .before) .loop-test .taken)
 
 loop-again-2 : tie.Need-loop-again-2 Inv-loop μ-loop
 loop-again-2 c =
-    let named = numbered (c .before) in
-    let out = put (named .before .before) in
-    let dates = moved (out .before) in
+    let out = put (c .before) in
+    let dates = moved out in
     let leaves = left dates in
     let ok = leaves .before in
     let o = reacted ok in
@@ -385,8 +368,7 @@ loop-again-2 c =
     let at = head f in (
       next-turn (at .loop .inv .0) (runs at) (due f .due-from .ensures .0) (inside f .loop-test .taken) (input-ok (known (due f)))
           (tick-is o) (sym (ok .before .number .ensures) ∙ ok .if4 .left) {row = row f}
-          (out .put-five .ensures) (out .before .five-words .ensures)
-          (named .put-numbers .ensures) (numbers-are f)
+          (out .put-tick .ensures .0) (out .put-tick .ensures .1) (numbers-are f)
           (leaves .left-by .ensures .0) (c .with-rounds .ensures .0)
           (leaves .left-by .ensures .1) (start at .pre .1) (dates .restart .ensures) (λ t h l. zero-le),
       c .with-rounds .ensures .1,
@@ -415,6 +397,5 @@ ticks-spec =
     (tie.spec Inv-loop μ-loop element-copy-out-timers event-count-requires deadlines-requires from-set-requires
     start-of-requires loop-holds mul-input shared-slice-read-input shr-if1 ended-requires same-length same-length-2 returns
     add-now due-from-requires start-from-requires first-triggered-requires put-quiet-requires rounds-requires
-    number-requires ended-requires-2 same-length-3 same-length-4 returns-2 left-by-requires restart-requires mul-put-five
-    five-words-requires put-five-requires mul-put-numbers put-numbers-requires with-rounds-requires loop-less loop-again
-    loop-less-2 loop-again-2 ended-requires-3 same-length-5 same-length-6 returns-3)
+    number-requires ended-requires-2 same-length-3 same-length-4 returns-2 left-by-requires restart-requires put-tick-requires
+    with-rounds-requires loop-less loop-again loop-less-2 loop-again-2 ended-requires-3 same-length-5 same-length-6 returns-3)
