@@ -2,17 +2,16 @@
 ghost use Prim.Native.Nat.{_≤_};
 ghost use lib.ListN.{length};
 ghost use Rattle.conform.specs.Steps.{Within};
-
-mod acceptance_case;
-mod alternatives_case;
-mod cases;
-mod compile_case;
-mod milliseconds_case;
-mod table_case;
-mod text;
-mod within_case;
-
-use text::Input;
+use case_text::parts;
+use case_text::text;
+use case_text::text::Input;
+use cases::acceptance_case;
+use cases::alternatives_case;
+use cases::compile_case;
+use cases::milliseconds_case;
+use cases::sheet_case;
+use cases::table_case;
+use cases::within_case;
 
 // The text that is left, how many words the current sheet has, how many table words are lent, and how many of them the current
 // table has.
@@ -56,7 +55,7 @@ fn answer(buf: &mut [u8; 65536], sheet: &mut [u32], table: &mut [u32], from: Lef
     let kind = case.value;
     match kind {
         1 => {
-            let read = cases::check(buf, input, sheet);
+            let read = sheet_case::check(buf, input, sheet);
             next(read.input, read.words, lent, length)
         }
         3 => {
@@ -94,7 +93,12 @@ fn answer_sheet(
     let length = from.length;
     let input = from.input;
     match kind {
-        2 => next(cases::sheet_run(buf, input, sheet), words, lent, length),
+        2 => next(
+            sheet_case::sheet_run(buf, input, sheet),
+            words,
+            lent,
+            length,
+        ),
         13 => {
             within_case::masks(sheet);
             next(input, words, lent, length)
@@ -150,7 +154,7 @@ fn answer_table(buf: &mut [u8; 65536], table: &mut [u32], kind: u32, from: Left)
             next(n.input, words, lent, text::at_most(n.value, lent))
         }
         24 => {
-            let read = cases::read_words(buf, input, table);
+            let read = parts::read_words(buf, input, table);
             let length = read.words;
             next(read.input, words, length, length)
         }
