@@ -30,7 +30,7 @@ use Rattle.meaning.proofs.NamedLaws.{begin-by}
 
 module _ (s : List ℕ) (d i t : ℕ) where
   -- taken in the first round, or in one after it
-  fired-first : (z : TickSets) (zs : List TickSets) → ltb 0 (firedIn s d i (z ∷ zs) t) ≡ (has (chosen s d i z) t || ltb 0 (firedIn s d i zs t))
+  pub fired-first : (z : TickSets) (zs : List TickSets) → ltb 0 (firedIn s d i (z ∷ zs) t) ≡ (has (chosen s d i z) t || ltb 0 (firedIn s d i zs t))
   unfolding firedIn
   fired-first z zs = go (has (chosen s d i z) t) refl
     where

@@ -86,7 +86,7 @@ module _ (s : List ℕ) (ts : ℕ) where
       T-not (someIn (tOf s) ts (givesWay s t)) (those-e (tOf s) ts (λ v. not (someIn (tOf s) ts (givesWay s v))) t h .2)
       (someIn-i (tOf s) ts (givesWay s t) u l m g)
 
-  eligible-i : (t : ℕ) → t < tOf s → T (has ts t) → someIn (tOf s) ts (givesWay s t) ≡ false → T (has (eligible s ts) t)
+  pub eligible-i : (t : ℕ) → t < tOf s → T (has ts t) → someIn (tOf s) ts (givesWay s t) ≡ false → T (has (eligible s ts) t)
   unfolding eligible
   eligible-i t l m e = those-i (tOf s) ts (λ u. not (someIn (tOf s) ts (givesWay s u))) t l m (rw e tt)
 

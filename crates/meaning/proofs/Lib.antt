@@ -12,6 +12,7 @@ pub mod RoundListLaws
 pub mod Consistency
 pub mod NamedLaws
 pub mod AlternativeLaws
+pub mod ReasonLaws
 pub mod AnyOrder
 pub mod StayTriggered
 pub mod ReadingLaws
@@ -19,6 +20,7 @@ pub mod TickInWordsLaws
 pub mod RunLaws
 pub mod SheetTicksLaws
 pub mod NumberLaws
+pub mod WhyLaws
 pub mod WalkFuel
 pub mod WalkLaws
 pub mod TableLaws

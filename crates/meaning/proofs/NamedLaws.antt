@@ -20,9 +20,11 @@ use Rattle.meaning.specs.Check.{kindOk, termOk}
 use Rattle.meaning.specs.Hierarchy.{complete}
 use Rattle.meaning.specs.Reaction.{TickSets, isDelay, delay, holds, inFirst, alternativesFrom, alternatives, allHold, alternative, isDue, trigger, triggered, eligible, ambiguous, restless, exiting, entering, afterRound}
 use Rattle.meaning.specs.Tick.{Tick, begin, chosen, roundsFrom, tick}
+use Rattle.meaning.specs.RoundList.{roundList, tickRounds}
 use Rattle.meaning.specs.NamedEvents.{names, NamedEvents}
 use Rattle.meaning.proofs.SheetLaws.{Sound}
 use Rattle.meaning.proofs.TickLaws.{Taken, rounds-ind, modes-after, active-after}
+use Rattle.meaning.proofs.RoundListLaws.{round-list-all}
 
 -- ---- where each term of t says the same, the same alternative holds
 
@@ -135,10 +137,29 @@ module _ (s : List ℕ) where
       (or-r (has (z .active) m) (has (entering s es) m))
       (or-e (has (z .modes) m && not (has (exiting s z es) m)) (has (entering s es) m) (subst T (modes-after s z es m) h)))
 
-  active-stays : (d i f : ℕ) (z : TickSets) (r m : ℕ) → T (has (z .active) m) → T (has (roundsFrom s f d i z r .sets .active) m)
-  active-stays d i f z r m =
-      rounds-ind s d i (λ y _. T (has (y .active) m))
-      (λ y _ p _. subst T (sym (active-after s y (chosen s d i y) m)) (or-l (has (y .active) m) (has (entering s (chosen s d i y)) m) p)) f z r
+  -- what is active at the start of rounds is so at their end, and so is a mode that is in the set as one of them begins
+  module _ (d i : ℕ) where
+    record Active (z : TickSets) (o : Tick) (zs : List TickSets) : Type 0 where
+      stays : (m : ℕ) → T (has (z .active) m) → T (has (o .sets .active) m)
+      within : ModesActive z → (j m : ℕ) → T (has (getD zs j (o .sets) .modes) m) → T (has (o .sets .active) m)
+
+    rounds-active : (f : ℕ) (z : TickSets) (r : ℕ) → Active z (roundsFrom s f d i z r) (roundList s f d i z)
+    unfolding ModesActive
+    rounds-active =
+        round-list-all s d i (λ z _ o zs. Active z o zs) (λ z _ _. record { stays = λ _ h. h; within = λ a _. a }) (λ z _ o zs _ ih. more z o zs ih)
+      where
+        more : (z : TickSets) (o : Tick) (zs : List TickSets) → Active (afterRound s z (chosen s d i z)) o zs → Active z o (z ∷ zs)
+        more z o zs ih = record { stays = stays; within = within }
+          where
+            es : ℕ
+            es = chosen s d i z
+
+            stays : (m : ℕ) → T (has (z .active) m) → T (has (o .sets .active) m)
+            stays m h = ih .stays m (subst T (sym (active-after s z es m)) (or-l (has (z .active) m) (has (entering s es) m) h))
+
+            within : ModesActive z → (j m : ℕ) → T (has (getD (z ∷ zs) j (o .sets) .modes) m) → T (has (o .sets .active) m)
+            within a zero m h = stays m (a m h)
+            within a (suc j) m h = ih .within (modes-active-step z es a) j m h
 
   -- a tick begins at power-on or from the set x
   pub begin-by : (P : TickSets → Type 0) (x : ℕ)
@@ -190,7 +211,7 @@ module _ (s : List ℕ) (d i j : ℕ) where
       same : chosen s d i z ≡ chosen s d j z
       same =
           unfold Agree ModesActive in
-          (chosen-same s d i j z (λ t e l on. h t e l (active-stays s d i (suc f) z r (source s t) (p (source s t) on))))
+          (chosen-same s d i j z (λ t e l on. h t e l (rounds-active s d i (suc f) z r .stays (source s t) (p (source s t) on))))
 
       after : Tick
       after = roundsFrom s f d i (afterRound s z es) (suc r)
@@ -210,6 +231,11 @@ named-events s x d i j h = rounds-same s d i j (suc (tOf s)) (begin s x) 0 (mode
 -- ---- which modes are active in a tick
 
 module _ (s : List ℕ) where
+  -- those in the set as one of its rounds begins, or at its end
+  pub set-active : (x d i j m : ℕ) → T (has (getD (tickRounds s x d i) j (tick s x d i .sets) .modes) m) → T (has (tick s x d i .sets .active) m)
+  unfolding tick tickRounds
+  set-active x d i = rounds-active s d i (suc (tOf s)) (begin s x) 0 .within (modes-active-begin s x)
+
   -- those it began with, and those entered
   pub active-entered : (x d i : ℕ) → tick s x d i .sets .active ≡ union (begin s x .modes) (tick s x d i .sets .entered)
   unfolding tick

@@ -71,6 +71,19 @@ module _ (k : ℕ) (step : State → ℕ → Step) where
       go true z e = (eqb-true (tickRefusal k step q i) 0 z, e)
       go false z e = absurd (eqb-false (tickRefusal k step q i) 0 z e)
 
+  -- the tick of one set
+  pub ticks-alone : (i : ℕ) (q : State) → tickRefusal k step q i ≡ 0 → ticks k step (i ∷ []) q ≡ tickThen (step q i) (stops 0 (step q i .state))
+  ticks-alone i q e = ticks-go i [] q e ∙ ap (tickThen (step q i)) (ticks-end (step q i .state))
+
+  pub alone-refusal : (i : ℕ) (q : State) → ticks k step (i ∷ []) q .refusal ≡ tickRefusal k step q i
+  unfolding ticks tickThen stops
+  alone-refusal i q = go (eqb (tickRefusal k step q i) 0) refl
+    where
+      go : (b : Bool) → eqb (tickRefusal k step q i) 0 ≡ b
+          → cond b (tickThen (step q i) (stops 0 (step q i .state))) (stops (tickRefusal k step q i) q) .refusal ≡ tickRefusal k step q i
+      go true z = sym (eqb-true (tickRefusal k step q i) 0 z)
+      go false z = refl
+
   -- what holds of the ticks of every list: by a first tick that is refused, or done
   module _ (P : List ℕ → State → Ticks → Type 0) (none : (q : State) → P [] q (stops 0 q))
       (bad : (i : ℕ) (is : List ℕ) (q : State) → (tickRefusal k step q i ≡ 0 → ⊥) → P (i ∷ is) q (stops (tickRefusal k step q i) q))

@@ -23,6 +23,8 @@ use Rattle.meaning.proofs.NoIdleArrows.{idle-refused, refused-idle, idl
 use Rattle.meaning.proofs.RoundListLaws.{rounds-listed}
 use Rattle.meaning.proofs.AlternativeLaws.{fired-taken, fired-range}
 use Rattle.meaning.proofs.NumberLaws.{numbers-taken}
+use Rattle.meaning.proofs.ReasonLaws.{reason-holds, reason-only}
+use Rattle.meaning.proofs.WhyLaws.{same-refusal, same-tick}
 use Rattle.meaning.proofs.SheetLaws.{sound}
 use Rattle.meaning.proofs.CompiledLaws.{compiled-accepted-from}
 
@@ -84,4 +86,8 @@ promised =
       firedTaken = fired-taken;
       firedRange = fired-range;
       numbersTaken = numbers-taken;
+      reasonHolds = reason-holds;
+      reasonOnly = reason-only;
+      sameRefusal = same-refusal;
+      sameTick = same-tick;
     }

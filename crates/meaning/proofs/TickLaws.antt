@@ -95,9 +95,12 @@ module _ (s : List ℕ) (d i : ℕ) where
   unfolding chosen
   chosen-lt z t h = eligible-lt s (triggered s d i z) t h
 
-  pub chosen-triggered : (z : TickSets) (t : ℕ) → T (has (chosen s d i z) t) → T (ltb 0 (trigger s d i z t))
+  pub chosen-among : (z : TickSets) (t : ℕ) → T (has (chosen s d i z) t) → T (has (triggered s d i z) t)
   unfolding chosen
-  chosen-triggered z t h = triggered-e z t (eligible-among s (triggered s d i z) t h)
+  chosen-among z t h = eligible-among s (triggered s d i z) t h
+
+  pub chosen-triggered : (z : TickSets) (t : ℕ) → T (has (chosen s d i z) t) → T (ltb 0 (trigger s d i z t))
+  chosen-triggered z t h = triggered-e z t (chosen-among z t h)
 
   pub chosen-small : (z : TickSets) → chosen s d i z < 2 ^ tOf s
   unfolding chosen eligible

@@ -8,8 +8,9 @@ use lib.ListN.{replicate, set}
 use Rattle.sets.specs.Sets.{single}
 use Rattle.meaning.specs.Lists.{rowFrom}
 use Rattle.meaning.specs.Tick.{tick}
-use Rattle.meaning.specs.Run.{powerOn}
+use Rattle.meaning.specs.Run.{State, powerOn}
 use Rattle.meaning.specs.SheetRun.{sheetRun}
+use Rattle.meaning.specs.Why.{refused, neverActive, neverTriggered, gaveWayTo, takenIn, why}
 use Rattle.meaning.specs.TableRun.{tableRun}
 use Rattle.meaning.specs.Idle.{idle}
 use Rattle.meaning.specs.Compile.{tableWords, compile}
@@ -165,6 +166,31 @@ first-numbers s i = sheetRun s powerOn (i ∷ []) (lent 5) (lent 64) .numbers
 abbrev two-numbers : ℕ → ℕ → List ℕ
 two-numbers a b = a ∷ b ∷ replicate 62 0
 
+-- a state with mode set x and reading r of transition 1, all others 0
+abbrev reading-1 : ℕ → ℕ → State
+reading-1 x r = record { at = x; readings = 0 ∷ r ∷ replicate 62 0 }
+
+-- 1→2 on event 0, 2→3 once that is taken, and 2→1 on event 1: mode 2 is entered and left again
+abbrev passing : List ℕ
+passing = sheetOf 2 three-modes (transition 1 2 (present 0) ∷ transition 2 3 (taken 0) ∷ transition 2 1 (present 1) ∷ [])
+
+-- 1→2, 1→3 and 3→1, all on event 0
+abbrev fork-and-back : List ℕ
+fork-and-back = sheetOf 1 three-modes (transition 1 2 (present 0) ∷ transition 1 3 (present 0) ∷ transition 3 1 (present 0) ∷ [])
+
+-- 1 contains 2 and 3: 2→3 on event 0; 1→4 after 1 tick, to which it gives way; 4→1 without delay, which enters 2 again
+abbrev timer-first : List ℕ
+timer-first =
+    sheetOf 1 (serial 0 1 ∷ serial 0 2 ∷ atomic 1 ∷ atomic 1 ∷ atomic 0 ∷ [])
+    (transition 2 3 (present 0) ∷ transition 1 4 (after 1) ∷ transition 4 1 (after 0) ∷ [])
+
+-- mode 1 is parallel over 2 (3, 4) and 5 (6, 7), 8 and 9 are beside it: 3→4 on event 0; 7→9 once 8→7 is taken; 6→8 on event 0; 8→7 once
+-- that is taken, which enters 3 again. 3→4 gives way to 6→8 in the first round and to 7→9, of a lower number, in the third.
+abbrev gives-way-twice : List ℕ
+gives-way-twice =
+    sheetOf 1 (serial 0 1 ∷ parallel 0 ∷ serial 1 3 ∷ atomic 2 ∷ atomic 2 ∷ serial 1 6 ∷ atomic 5 ∷ atomic 5 ∷ atomic 0 ∷ atomic 0 ∷ [])
+    (transition 3 4 (present 0) ∷ transition 7 9 (taken 3) ∷ transition 6 8 (present 0) ∷ transition 8 7 (taken 2) ∷ [])
+
 -- modes 2 and 3 are never reached: 2→3 on event 0; or 2→1 and 2→3, both on event 0
 abbrev not-reached : List ℕ
 not-reached = sheetOf 1 three-modes (transition 2 3 (present 0) ∷ [])
@@ -231,6 +257,34 @@ pub record Examples : Type 0 where
       ≡ record { run = record { done = 0; state = powerOn; refusal = 12; rounds = 0; out = lent 10 }; numbers = lent 127 }
   -- the numbers of a refused tick stay
   pub refused-numbers : sheetRun sheet powerOn (1 ∷ 2 ∷ []) (lent 10) (lent 128) .numbers ≡ two-numbers 1 0 ++ lent 64
+  -- Ask 1: never triggered; never active; taken; a source that the last round entered is active
+  pub never-triggered : why sheet powerOn 0 0 ≡ neverTriggered
+  pub never-active : why sheet powerOn 0 1 ≡ neverActive
+  pub by-event : why sheet powerOn 1 0 ≡ takenIn 1 1
+  pub entered-last : why sheet powerOn 1 1 ≡ neverTriggered
+  -- a due timer, and then 1→2 in the second round
+  pub by-delay : why sheet (reading-1 5 1) 1 1 ≡ takenIn 1 9
+  pub second-round : why sheet (reading-1 5 1) 1 0 ≡ takenIn 2 1
+  -- "16, after 14 and before 13"
+  pub why-no-words : why [] (reading-1 9 0) 2 2 ≡ refused 1
+  pub why-state : why sheet (reading-1 9 0) 2 2 ≡ refused 14
+  pub why-transition : why sheet powerOn 2 2 ≡ refused 16
+  pub why-input : why sheet powerOn 2 1 ≡ refused 13
+  -- "A refused tick reports its refusal only": of one taken in its first round, and of one whose source is never active
+  pub why-restless : why to-and-fro powerOn 1 0 ≡ refused 9
+  pub why-ambiguous : why fork-and-back powerOn 1 2 ≡ refused 8
+  -- a source that is entered and left again was active
+  pub passed-through : why passing powerOn 1 2 ≡ neverTriggered
+  -- "the lowest-numbered transition it gave way to", although that one gives way itself
+  pub gave-way-lowest : why three-levels powerOn 7 0 ≡ gaveWayTo 1
+  pub gave-way-middle : why three-levels powerOn 7 1 ≡ gaveWayTo 2
+  pub taken-highest : why three-levels powerOn 7 2 ≡ takenIn 1 1
+  -- "If it both gave way and was taken, taken is reported.": first the one, or first the other
+  pub gave-way-before : why gives-way-first powerOn 1 0 ≡ takenIn 3 1
+  pub gave-way-to-timer : why timer-first (reading-1 7 1) 1 0 ≡ takenIn 3 1
+  pub gave-way-after : why outer-first powerOn 1 0 ≡ takenIn 1 1
+  -- "in the first such round"
+  pub gave-way-twice : why gives-way-twice powerOn 1 0 ≡ gaveWayTo 2
   -- Ask 4: our own table, "Blocks may be in another order than ours", not another sheet's; "no mask stands twice"
   pub own-accepted : acceptRefusal sheet table ≡ 0
   pub reordered-accepted : acceptRefusal sheet reordered ≡ 0
@@ -330,6 +384,26 @@ examples =
       words-short = refl;
       numbers-short = refl;
       refused-numbers = refl;
+      never-triggered = refl;
+      never-active = refl;
+      by-event = refl;
+      entered-last = refl;
+      by-delay = refl;
+      second-round = refl;
+      why-no-words = refl;
+      why-state = refl;
+      why-transition = refl;
+      why-input = refl;
+      why-restless = refl;
+      why-ambiguous = refl;
+      passed-through = refl;
+      gave-way-lowest = refl;
+      gave-way-middle = refl;
+      taken-highest = refl;
+      gave-way-before = refl;
+      gave-way-to-timer = refl;
+      gave-way-after = refl;
+      gave-way-twice = refl;
       own-accepted = refl;
       reordered-accepted = refl;
       other-sheet = refl;

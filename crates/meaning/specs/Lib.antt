@@ -11,6 +11,7 @@ pub mod RoundList
 pub mod Alternatives
 pub mod Run
 pub mod SheetRun
+pub mod Why
 pub mod Table
 pub mod TableRun
 pub mod Walk
@@ -27,6 +28,7 @@ pub mod NoIdleArrows
 pub mod HighestLevelFirst
 pub mod NamedEvents
 pub mod FiredAlternatives
+pub mod Reasons
 pub mod Promises
 pub mod Charts
 pub mod Opened

@@ -1,7 +1,7 @@
 -- The names that a proof by computing unfolds, in one place, file by file: whoever unfolds `opened` unfolds every definition of the
 -- meaning. Assumes nothing.
 use mathlib.Core.List.{flatten}
-use Rattle.sets.specs.Sets.{digit, has, minus, unionOf, setOf, those, members, size, some, every, someIn, everyIn}
+use Rattle.sets.specs.Sets.{digit, has, minus, unionOf, setOf, those, members, size, lowest, some, every, someIn, everyIn}
 use Rattle.meaning.specs.Lists.{rowFrom, isIn, place, overwritten, allOf, firstOf, refusedIf, firstRefusal}
 use Rattle.meaning.specs.Sheet.{word, nOf, kOf, tOf, kind, parent, first, offset, recordLength, endBefore, source, target, termCount, termKind, termValue, isChild, containsIn, contains, strictlyContains, meetingFrom, meetingOf, meeting}
 use Rattle.meaning.specs.Check.{headOk, modeOk, modesOk, pairOk, pairsOk, endOk, endsOk, kindOk, termOk, termsOk, sharesEnds, distinctOk, sheetRefusal}
@@ -14,6 +14,7 @@ use Rattle.meaning.specs.RoundList.{takesRound, roundList, tickRounds}
 use Rattle.meaning.specs.Alternatives.{numbersShort, firedIn, fired, tickNumbers}
 use Rattle.meaning.specs.Run.{reading, powerOn, isFresh, readingsOk, dueTimers, nextReadings, nextState, stops, tickThen, outputShort, inputForeign, ran, tickRefusal, ticks, run}
 use Rattle.meaning.specs.SheetRun.{stateOk, tickFrom, stateAfter, sheetStep, numbersFrom, sheetNumbers, withNumbers, sheetRun}
+use Rattle.meaning.specs.Why.{refusalOf, reasonWords, aheadOf, gaveWayIn, roundIn, reason, noTransition, whyRefusal, why}
 use Rattle.meaning.specs.Table.{wordIn, kIn, tIn, bIn, sourceIn, delayIn, offsetIn, lengthIn, endBeforeIn, maskIn, timersIn, cellsIn, cellWord, timerOk, blockOk, tableOk}
 use Rattle.meaning.specs.TableRun.{dueNumber, tableStateOk, cellOf, stateAfterCell, isStale, tableStep, tableRun}
 use Rattle.meaning.specs.Walk.{dueSet, workListFull, timersMany, cellCount, cellTick, listing, cellsFrom, walkFrom, walk}
@@ -25,7 +26,7 @@ use Rattle.meaning.specs.Acceptance.{acceptRefusal}
 use Rattle.meaning.specs.NamedEvents.{names}
 
 unfoldable in-sets : Unit {0}
-unfolding digit has minus unionOf setOf those members size some every someIn everyIn
+unfolding digit has minus unionOf setOf those members size lowest some every someIn everyIn
 in-sets = tt
 
 unfoldable in-lists : Unit {0}
@@ -72,6 +73,10 @@ unfoldable in-sheet-run : Unit {0}
 unfolding stateOk tickFrom stateAfter sheetStep numbersFrom sheetNumbers withNumbers sheetRun
 in-sheet-run = tt
 
+unfoldable in-why : Unit {0}
+unfolding refusalOf reasonWords aheadOf gaveWayIn roundIn reason noTransition whyRefusal why
+in-why = tt
+
 unfoldable in-table : Unit {0}
 unfolding wordIn kIn tIn bIn sourceIn delayIn offsetIn lengthIn endBeforeIn maskIn timersIn cellsIn cellWord timerOk blockOk tableOk
 in-table = tt
@@ -101,5 +106,5 @@ unfolding names
 in-named-events = tt
 
 unfoldable pub opened : Unit {0}
-unfolding in-sets in-lists in-sheet in-check in-hierarchy in-gives-way in-reaction in-within in-tick in-alternatives in-run in-sheet-run in-table in-table-run in-walk in-compile in-milliseconds in-faithful in-named-events
+unfolding in-sets in-lists in-sheet in-check in-hierarchy in-gives-way in-reaction in-within in-tick in-alternatives in-run in-sheet-run in-why in-table in-table-run in-walk in-compile in-milliseconds in-faithful in-named-events
 opened = tt

@@ -27,6 +27,7 @@ use Rattle.meaning.specs.Within.{MaskExact, MaskNoOther, ConflictByMask,
 use Rattle.meaning.specs.Milliseconds.{WholeDelay, RestBelow, TicksFit}
 use Rattle.meaning.specs.NoIdleArrows.{IdleRefused, RefusedIdle, IdleLeaves, EveryArrowTaken}
 use Rattle.meaning.specs.FiredAlternatives.{FiredTaken, FiredRange, NumbersTaken}
+use Rattle.meaning.specs.Reasons.{ReasonHolds, ReasonOnly, SameRefusal, SameTick}
 
 -- a tick from power-on or from a consistent set leaves a consistent set
 unfoldable pub KeepsConsistent : Type 0
@@ -139,3 +140,7 @@ pub record Promised : Type 0 where
   pub firedTaken : FiredTaken
   pub firedRange : FiredRange
   pub numbersTaken : NumbersTaken
+  pub reasonHolds : ReasonHolds
+  pub reasonOnly : ReasonOnly
+  pub sameRefusal : SameRefusal
+  pub sameTick : SameTick

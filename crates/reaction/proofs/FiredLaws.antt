@@ -19,14 +19,15 @@ use Rattle.meaning.specs.RoundList.{takesRound, roundList, tickRounds}
 use Rattle.meaning.specs.Alternatives.{firedIn, fired, tickNumbers}
 use Rattle.meaning.proofs.SheetLaws.{sound}
 use Rattle.meaning.proofs.ListLaws.{rowFrom-ext}
-use Rattle.meaning.proofs.TickLaws.{Taken, chosen-triggered}
+use Rattle.meaning.proofs.RoundListLaws.{list-all}
+use Rattle.meaning.proofs.TickLaws.{chosen-triggered}
 use Rattle.meaning.proofs.Consistency.{begin-consistent, consistent-after}
 use Rattle.reaction.specs.Causes.{cause, firedBy}
-use Rattle.reaction.specs.Rounds.{Before}
+use Rattle.reaction.specs.Rounds.{startSets, Before}
 use Rattle.reaction.specs.declared.tick.Start.{Start}
 use Rattle.reaction.proofs.RowLaws.{row-zeros}
 use Rattle.reaction.proofs.NextLaws.{none-due-after}
-use Rattle.reaction.proofs.StartLaws.{startSets, start-sets}
+use Rattle.reaction.proofs.StartLaws.{start-sets}
 
 -- by its truth values: its source is active, it is a delay, of 0 or due; and its alternative a
 trigger-cases : (on wait now : Bool) (a : ℕ) → T (ltb 0 (cond (not on) 0 (cond wait (cond now 9 0) a)))
@@ -45,37 +46,15 @@ module _ (s : List ℕ) where
   module _ (h : sheetRefusal s ≡ 0) where
     pub fired-by : (f d i : ℕ) (z : TickSets) (t : ℕ) → i < 2 ^ kOf s → T (consistent s (z .modes))
         → firedBy s f i z (triggered s d i z) t ≡ firedIn s d i (roundList s f d i z) t
-    unfolding firedBy firedIn roundList takesRound chosen
-    fired-by zero d i z t b con = refl
-    fired-by (suc f) d i z t b con =
-        go (eqb es 0) (ambiguous s es) (restless s z es) refl refl refl (λ k.
-        ap (λ (x : ℕ). firedBy s f i after x t) (none-due-after s h d i z b con)
-        ∙ fired-by f d i after t b (consistent-after s (sound s h) d i z con k))
-      where
-        es : ℕ
-        es = chosen s d i z
-
-        after : TickSets
-        after = afterRound s z es
-
-        later : ℕ
-        later = firedBy s f i after (triggered s 0 i after) t
-
-        rest : List TickSets
-        rest = roundList s f d i after
-
-        by-cause : cond (has es t) (cause s i z t) (firedIn s d i rest t) ≡ cond (has es t) (trigger s d i z t) (firedIn s d i rest t)
-        by-cause =
-            cond-ext (has es t) (cause s i z t) (trigger s d i z t) (firedIn s d i rest t)
-            (λ k. sym (trigger-cause d i z t (chosen-triggered s d i z t k)))
-
-        go : (x y c : Bool) → eqb es 0 ≡ x → ambiguous s es ≡ y → restless s z es ≡ c → (Taken s d i z → later ≡ firedIn s d i rest t)
-            → cond (x || y || c) 0 (cond (has es t) (cause s i z t) later) ≡ firedIn s d i (cond (not (x || y || c)) (z ∷ rest) []) t
-        go true y c ex ey ec ih = refl
-        go false true c ex ey ec ih = refl
-        go false false true ex ey ec ih = refl
-        go false false false ex ey ec ih =
-            ap (cond (has es t) (cause s i z t)) (ih (record { filled = ex; clear = ey; fresh = ec })) ∙ by-cause
+    unfolding firedBy firedIn chosen
+    fired-by f d i z t v =
+        list-all s d i (λ f z _ zs. T (consistent s (z .modes)) → firedBy s f i z (triggered s d i z) t ≡ firedIn s d i zs t)
+        (λ _ _ _. refl) (λ f z _ e _. rw e) (λ f z _ zs k ih con.
+        rw (k .filled, k .clear, k .fresh)
+        (ap (cond (has (chosen s d i z) t) (cause s i z t))
+        (ap (λ (x : ℕ). firedBy s f i (afterRound s z (chosen s d i z)) x t) (none-due-after s h d i z v con) ∙ ih (consistent-after s (sound s h) d i z con k))
+        ∙ cond-ext (has (chosen s d i z) t) (cause s i z t) (trigger s d i z t) (firedIn s d i zs t)
+        (λ m. sym (trigger-cause d i z t (chosen-triggered s d i z t m))))) f z 0
 
     -- the numbers of the rounds from what is triggered first are those of the tick
     pub numbers-by : {b : Start} {due i first : ℕ} (o : Before s b due) → i < 2 ^ kOf s → first ≡ triggered s due i (startSets b)

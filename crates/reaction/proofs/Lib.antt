@@ -11,4 +11,7 @@ pub mod EarlyLaws
 pub mod RoundLoop
 pub mod StartLaws
 pub mod FiredLaws
+pub mod RoundsLeft
 pub mod FiredLoop
+pub mod ReasonLaws
+pub mod ReasonLoop

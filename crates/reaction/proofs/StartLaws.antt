@@ -21,7 +21,7 @@ use Rattle.meaning.proofs.Consistency.{begin-consistent}
 use Rattle.meaning.proofs.NamedLaws.{begin-by}
 use Rattle.reaction.specs.Plan.{mixedWord, earlyWord, startWord, Planned, sourcesIn, hitsOf, mixed, early}
 use Rattle.reaction.specs.Facts.{openFacts, alternativeBy}
-use Rattle.reaction.specs.Rounds.{setsOf, firstSets, roundsBy, StartOf, Before, Begun}
+use Rattle.reaction.specs.Rounds.{setsOf, firstSets, startSets, roundsBy, StartOf, Before, Begun}
 use Rattle.reaction.specs.declared.tick.Start.{Start}
 use Rattle.reaction.proofs.PlanLaws.{start-word, sources-on}
 use Rattle.reaction.proofs.TriggerLaws.{mixed-e}
@@ -49,9 +49,6 @@ module _ (s plan : List ℕ) (p : Planned s plan) {x live : ℕ} where
       }
 
 -- ---- the sets with which a tick begins
-
-abbrev pub startSets : Start → TickSets
-startSets b = setsOf (b .begun) (firstSets (b .begun) (b .entered))
 
 module _ (s : List ℕ) {x : ℕ} {b : Start} (h : StartOf s x b) where
   -- what was entered is among the modes

@@ -43,6 +43,10 @@ endedSo why z r = record { refusal = why; rounds = r; modes = z .modes; changed 
 abbrev pub firstSets : ℕ → ℕ → Sets
 firstSets begun entered = record { modes = begun; entered = entered; exited = 0; taken = 0 }
 
+-- the sets with which a tick begins
+abbrev pub startSets : Start → TickSets
+startSets b = setsOf (b .begun) (firstSets (b .begun) (b .entered))
+
 -- the sets after a round that takes es, by the word of the modes exited and entered
 abbrev pub afterEnds : Sets → ℕ → ℕ → Sets
 afterEnds z ends es =

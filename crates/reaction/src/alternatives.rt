@@ -10,7 +10,7 @@ ghost use Rattle.meaning.specs.Lists.{rowFrom};
 ghost use Rattle.meaning.specs.Sheet.{kOf, tOf};
 ghost use Rattle.meaning.specs.Check.{sheetRefusal};
 ghost use Rattle.reaction.specs.Plan.{Planned};
-ghost use Rattle.reaction.specs.Rounds.{setsOf, tickOf, firstSets, roundsBy, Begun};
+ghost use Rattle.reaction.specs.Rounds.{setsOf, tickOf, startSets, roundsBy, Begun};
 ghost use Rattle.reaction.specs.Causes.{causeBy, cause, firedBy};
 use super::plan::MIXED;
 use super::plan::Plan;
@@ -30,7 +30,7 @@ use sheet::words::term_count;
 
 // Why transition t, which is triggered, is: 9 for a delay, else the lowest alternative that holds. The terms are judged only where
 // there is more than one.
-fn cause(sheet: &[u32], t: usize, f: &[u64; 8]) -> u8
+pub fn cause(sheet: &[u32], t: usize, f: &[u64; 8]) -> u8
     requires { ⌜ (sheetRefusal (now sheet) ≡ 0) × (t < tOf (now sheet)) × T (ltb 0 (causeBy (now sheet) (now f) t)) ⌝ }
     ensures { λ r. ⌜ r ≡ causeBy (now (sheet .entry)) (now (f .entry)) t ⌝ }
 {
@@ -82,13 +82,11 @@ pub fn put_numbers(
     at: usize,
 )
     requires { ⌜ Planned (now sheet) (now plan) × Begun (now sheet) (b .begun) (b .entered) first input × (input < 2 ^ kOf (now sheet))
-        × (tickOf (b .begun) o
-        ≡ roundsBy (now sheet) (suc (tOf (now sheet))) input (setsOf (b .begun) (firstSets (b .begun) (b .entered))) first 0)
+        × (tickOf (b .begun) o ≡ roundsBy (now sheet) (suc (tOf (now sheet))) input (startSets b) first 0)
         × (at + 64 ≤ length (now numbers)) ⌝ }
     ensures { λ _. ⌜ now (numbers .exit)
         ≡ over (now (numbers .entry)) at (rowFrom 0 64
-        (firedBy (now (sheet .entry)) (suc (tOf (now (sheet .entry)))) input (setsOf (b .begun) (firstSets (b .begun) (b .entered)))
-        first)) ⌝ }
+        (firedBy (now (sheet .entry)) (suc (tOf (now (sheet .entry)))) input (startSets b) first)) ⌝ }
 {
     let hits = hits(sheet, plan, input);
     let mixed = plan[MIXED];

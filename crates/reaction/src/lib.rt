@@ -3,3 +3,4 @@ pub mod alternatives;
 pub mod plan;
 pub mod terms;
 pub mod tick;
+pub mod why;

@@ -10,7 +10,7 @@ ghost use Rattle.meaning.specs.Check.{sheetRefusal};
 ghost use Rattle.meaning.specs.Reaction.{isDelay, alternative, triggered, eligible};
 ghost use Rattle.meaning.specs.Tick.{fiveWords};
 ghost use Rattle.reaction.specs.Plan.{Planned, yieldersOf};
-ghost use Rattle.reaction.specs.Rounds.{setsOf, tickOf, endedSo, firstSets, afterEnds, addMove, MovesOf, RoundOf, roundsBy, StartOf, Before, Begun};
+ghost use Rattle.reaction.specs.Rounds.{setsOf, tickOf, endedSo, firstSets, startSets, afterEnds, addMove, MovesOf, RoundOf, roundsBy, StartOf, Before, Begun};
 use super::plan::CONFLICTS;
 use super::plan::EARLY;
 use super::plan::ENDS;
@@ -256,8 +256,7 @@ pub fn start_of(sheet: &[u32], plan: &Plan, set: u32) -> Start
 // The transitions triggered where a tick begins.
 pub fn first_triggered(sheet: &[u32], plan: &Plan, b: Start, due: u64, input: u32) -> u64
     requires { ⌜ Planned (now sheet) (now plan) × Before (now sheet) b due × (input < 2 ^ kOf (now sheet)) ⌝ }
-    ensures { λ r. ⌜ r
-        ≡ triggered (now (sheet .entry)) due input (setsOf (b .begun) (firstSets (b .begun) (b .entered))) ⌝ }
+    ensures { λ r. ⌜ r ≡ triggered (now (sheet .entry)) due input (startSets b) ⌝ }
 {
     let sure = b.live & (due | hits(sheet, plan, input));
     let z = Sets {

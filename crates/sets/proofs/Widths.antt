@@ -7,11 +7,11 @@ use native.Mathlib.Nat.{lt-of-le-of-lt}
 use lib.Bits.{and-comm}
 use lib.Dec.{T, ltb, ltb→lt, lt→ltb}
 use borrow.Author.Tests.{lt-ltb, le-ltb}
-use Rattle.sets.specs.Sets.{has, union, meet, below, setOf, those, members, size, someIn, everyIn}
+use Rattle.sets.specs.Sets.{has, union, meet, below, setOf, those, members, size, lowest, someIn, everyIn}
 use Rattle.sets.proofs.Tests.{is-true, is-false, of-true, bool-ext}
-use Rattle.sets.proofs.Facts.{has-lt, setOf-e, setOf-i, someIn-e, someIn-i, everyIn-e, everyIn-i}
+use Rattle.sets.proofs.Facts.{has-lt, setOf-e, setOf-i, those-e, those-i, someIn-e, someIn-i, everyIn-e, everyIn-i}
 use Rattle.sets.proofs.Membership.{same-members, has-meet, has-none, has-below, has-setOf, meet-le, setOf-lt, setOf-ext, lt-of-members}
-use Rattle.sets.proofs.Members.{Turn, fold, ones-size, without-other}
+use Rattle.sets.proofs.Members.{Turn, fold, ones-size, lowest-unique, lowest-member, without-other}
 use Rattle.sets.proofs.Quantifiers.{someIn-same, has-union-over}
 use Rattle.sets.proofs.Those.{subset-turn}
 
@@ -36,6 +36,17 @@ someIn-width v w {s} p h k = bool-ext (someIn v s p) (someIn w s p) (wider v w k
   where
     wider : (x y : ℕ) → s < 2 ^ y → T (someIn x s p) → T (someIn y s p)
     wider x y l e = let r = someIn-e x s p e in someIn-i y s p (r .0) (has-lt y s (r .0) l (r .2)) (r .2) (r .3)
+
+pub those-width : (v w : ℕ) {s : ℕ} (p : ℕ → Bool) → s < 2 ^ v → s < 2 ^ w → those v s p ≡ those w s p
+those-width v w {s} p h k = same-members (λ i. bool-ext (has (those v s p) i) (has (those w s p) i) (wider v w k i) (wider w v h i))
+  where
+    wider : (x y : ℕ) → s < 2 ^ y → (i : ℕ) → T (has (those x s p) i) → T (has (those y s p) i)
+    wider x y l i e = let r = those-e x s p i e in those-i y s p i (has-lt y s i l (r .1)) (r .1) (r .2)
+
+pub lowest-width : (v w : ℕ) {s : ℕ} → s < 2 ^ v → s < 2 ^ w → 0 < s → lowest v s ≡ lowest w s
+lowest-width v w {s} h k p =
+    let l = lowest-member v s h p in
+    sym (lowest-unique (record { small = has-lt w s (lowest v s) k (of-true (l .member)); member = l .member; least = l .least }))
 
 -- the union of sets h t of w bits over the members t of a
 pub has-over : (v w a : ℕ) (h : ℕ → ℕ) → ((t : ℕ) → h t < 2 ^ w) → (i : ℕ)

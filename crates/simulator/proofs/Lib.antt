@@ -3,3 +3,4 @@ pub mod LiveLaws
 pub mod NumbersLoop
 pub mod SheetStateLaws
 pub mod SheetRunLaws
+pub mod WhyLaws

@@ -32,12 +32,12 @@ use Rattle.meaning.proofs.ReadingLaws.{delay-small, Right, right-next}
 use Rattle.meaning.proofs.RunLaws.{run-all}
 use Rattle.meaning.proofs.SheetTicksLaws.{run-rounds, five-long}
 use Rattle.reaction.specs.Plan.{sourcesIn, timerDelay}
-use Rattle.reaction.specs.Rounds.{roundsBy, Known, StartOf, Before}
+use Rattle.reaction.specs.Rounds.{startSets, roundsBy, Known, StartOf, Before}
 use Rattle.reaction.specs.Causes.{firedBy}
 use Rattle.reaction.specs.declared.tick.Start.{Start}
 use Rattle.reaction.proofs.PlanLaws.{has-sourcesIn}
 use Rattle.reaction.proofs.EarlyLaws.{begins}
-use Rattle.reaction.proofs.StartLaws.{startSets, start-sets, tick-by}
+use Rattle.reaction.proofs.StartLaws.{start-sets, tick-by}
 use Rattle.reaction.proofs.FiredLaws.{numbers-by, numbers-quiet}
 use Rattle.run.specs.Runs.{endedRun}
 use Rattle.run.proofs.DeadlineLaws.{stateFrom, reading-from, state-next, deadline-after, state-start, start-within}
@@ -60,6 +60,29 @@ right-ahead s sd x ends i r t h =
     let e = reading-from (running s x) ends i t (lt-of-lt-of-le (on .small) (t-le s sd)) h in
     let d = delay-small s sd t (on .small) (on .timer) in
     (omega (arith, r t h .0), omega (arith, r t h .1))
+
+-- what a tick from the mode set x begins with, and the timers that are due in it
+module _ (s : List ℕ) {x : ℕ} (known : Known s x) {d : ℕ} (readings : List ℕ) (e : d ≡ dueTimers (running s x) readings) where
+  pub due-word : d < 2 ^ 64
+  unfolding dueTimers
+  due-word = rw e (those-lt 64 (running s x) _)
+
+  pub due-runs : (t : ℕ) → T (has d t) → Runs s x t
+  unfolding dueTimers
+  due-runs t m = running-e s x t (those-e 64 (running s x) _ t (rw e at m) .1)
+
+  unfoldable pub begins-by : {b : Start} → StartOf s x b → Before s b d
+  begins-by st =
+      record {
+        set = x;
+        known = known;
+        start = st;
+        small = lt-of-members 64 (tOf s) d due-word (λ t l _. is-false (has d t) (λ m. let on = due-runs t m in omega (arith, on .small)));
+        timing = λ t m. due-runs t m .timer;
+        none =
+            λ z. empty 64 due-word (λ t l.
+            is-false (has d t) (λ m. subst T (ap (λ (y : ℕ). has y (source s t)) z ∙ has-none (source s t)) (due-runs t m .on)));
+      }
 
 -- ---- input i is reached in the mode set x, by the deadlines ends
 
@@ -182,37 +205,19 @@ module _ {s inputs out₀ numbers₀ : List ℕ} {q₀ : State} {out numbers end
     due-is : d ≡ dueTimers (running s x) (now .readings)
     due-is = due-now (k .timed) te de
 
-    due-word : d < 2 ^ 64
-    unfolding dueTimers
-    due-word = rw due-is (those-lt 64 (running s x) _)
-
-    runs : (t : ℕ) → T (has d t) → Runs s x t
-    unfolding dueTimers
-    runs t m = running-e s x t (those-e 64 (running s x) _ t (rw due-is at m) .1)
-
     pub tick-begins : {b : Start} → StartOf s x b → Before s b d
-    tick-begins st =
-        record {
-          set = x;
-          known = k .known;
-          start = st;
-          small = lt-of-members 64 (tOf s) d due-word (λ t l _. is-false (has d t) (λ m. let on = runs t m in omega (arith, on .small)));
-          timing = λ t m. runs t m .timer;
-          none =
-              λ e. empty 64 due-word (λ t l.
-              is-false (has d t) (λ m. subst T (ap (λ (y : ℕ). has y (source s t)) e ∙ has-none (source s t)) (runs t m .on)));
-        }
+    tick-begins = begins-by s (k .known) (now .readings) due-is
 
     -- the rounds from what is triggered first
     pub tick-of : sheetRefusal s ≡ 0 → input < 2 ^ kOf s → {b : Start} {first : ℕ} {r : Tick} → StartOf s x b → first ≡ triggered s d input (startSets b)
         → r ≡ roundsBy s (suc (tOf s)) input (startSets b) first 0 → r ≡ tick s x d input
-    unfolding tick-begins
+    unfolding tick-begins begins-by
     tick-of h v st e g = tick-by s h (tick-begins st) v e g
 
     -- its numbers
     pub numbers-of : sheetRefusal s ≡ 0 → input < 2 ^ kOf s → {b : Start} {first : ℕ} → StartOf s x b → first ≡ triggered s d input (startSets b)
         → rowFrom 0 64 (firedBy s (suc (tOf s)) input (startSets b) first) ≡ tickNumbers s x d input
-    unfolding tick-begins
+    unfolding tick-begins begins-by
     numbers-of h v st e = numbers-by s h (tick-begins st) v e
 
     module _ (l : i < length inputs) (b : input / 2 ^ kOf s ≡ 0) {r : Tick} (re : r ≡ tick s x d input) where

@@ -16,7 +16,7 @@ ghost use Rattle.meaning.specs.Sheet.{kOf, tOf};
 ghost use Rattle.meaning.specs.Tick.{fiveWords};
 ghost use Rattle.meaning.specs.SheetRun.{stateOk, sheetTicks, withNumbers, sheetRun};
 ghost use Rattle.reaction.specs.Plan.{Planned, sourcesIn, timerDelay};
-ghost use Rattle.reaction.specs.Rounds.{setsOf, tickOf, firstSets, roundsBy, StartOf, Begun};
+ghost use Rattle.reaction.specs.Rounds.{tickOf, startSets, roundsBy, StartOf, Begun};
 ghost use Rattle.reaction.specs.Causes.{firedBy};
 ghost use Rattle.run.specs.States.{stateOf};
 ghost use Rattle.run.specs.Counts.{totalOf};
@@ -138,15 +138,13 @@ fn put_tick(
         Planned (now sheet) (now plan)
         × Begun (now sheet) (b .begun) (b .entered) first input
         × (input < 2 ^ kOf (now sheet))
-        × (tickOf (b .begun) o
-        ≡ roundsBy (now sheet) (suc (tOf (now sheet))) input (setsOf (b .begun) (firstSets (b .begun) (b .entered))) first 0)
+        × (tickOf (b .begun) o ≡ roundsBy (now sheet) (suc (tOf (now sheet))) input (startSets b) first 0)
         × (5 * i + 5 ≤ length (now out))
         × (64 * i + 64 ≤ length (now numbers)) ⌝ }
     ensures { λ _. ⌜
         (now (out .exit) ≡ over (now (out .entry)) (5 * i) (fiveWords (tickOf (b .begun) o .sets)))
         × (now (numbers .exit) ≡ over (now (numbers .entry)) (64 * i) (rowFrom 0 64
-        (firedBy (now (sheet .entry)) (suc (tOf (now (sheet .entry)))) input (setsOf (b .begun) (firstSets (b .begun) (b .entered)))
-        first))) ⌝ }
+        (firedBy (now (sheet .entry)) (suc (tOf (now (sheet .entry)))) input (startSets b) first))) ⌝ }
 {
     put_five(out, 5 * i, five_words(b.begun, o));
     put_numbers(sheet, plan, b, first, input, o, numbers, 64 * i);

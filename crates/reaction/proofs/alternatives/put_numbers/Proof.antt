@@ -14,11 +14,11 @@ use Rattle.meaning.specs.Lists.{rowFrom}
 use Rattle.meaning.specs.Tick.{Tick}
 use Rattle.meaning.proofs.SheetLaws.{sound, t-le}
 use Rattle.reaction.specs.Plan.{hitsPart, hitsOf}
-use Rattle.reaction.specs.Rounds.{setsOf, firstSets}
+use Rattle.reaction.specs.Rounds.{firstSets}
 use Rattle.reaction.proofs.RowLaws.{row-length, row-again}
-use Rattle.reaction.proofs.RoundLaws.{triggered-small}
 use Rattle.reaction.proofs.RoundLoop.{all}
 use Rattle.reaction.proofs.TriggerLaws.{input-lt, mixed-asks}
+use Rattle.reaction.proofs.RoundsLeft.{left-small}
 use Rattle.reaction.proofs.FiredLoop.{numbered, Numbered, numbered-start, numbered-none, round-asks, round-laid, round-next, last-asks, last-laid}
 use Rattle.reaction.proofs.alternatives.put_numbers.Statement.{statement}
 use Rattle.reaction.proofs.alternatives.put_numbers.Tie as tie
@@ -88,9 +88,7 @@ add-if1 c = omega (arith, few c)
 round-of-requires : tie.Need-round-of-requires Inv-loop μ-loop
 round-of-requires c κs =
     let k = c .before .before in
-    let a = known k .args in
-    let n = k .loop .inv .0 .left in
-    (known k .pre .0, rw (n .triggers) (triggered-small (a .sheet .now) (n .due) (a .input) (setsOf (a .b .begun) (k .loop .z))))
+    (known k .pre .0, left-small (k .loop .inv .0 .left))
 
 -- a round that is not the last
 module _ (e : tie.After-round-of Inv-loop μ-loop) where

@@ -21,10 +21,10 @@ use Rattle.meaning.specs.SheetRun.{sheetTicks, withNumbers}
 use Rattle.meaning.proofs.SheetLaws.{Sound, sound, k-le}
 use Rattle.sheet.proofs.Past.{head-read}
 use Rattle.reaction.specs.Plan.{timersWord}
-use Rattle.reaction.specs.Rounds.{tickOf, Before}
+use Rattle.reaction.specs.Rounds.{startSets, tickOf, Before}
 use Rattle.reaction.specs.Causes.{firedBy}
 use Rattle.reaction.proofs.PlanLaws.{running-meet}
-use Rattle.reaction.proofs.StartLaws.{startSets, begun-of}
+use Rattle.reaction.proofs.StartLaws.{begun-of}
 use Rattle.run.specs.Counts.{totalOf}
 use Rattle.run.specs.Runs.{endedRun}
 use Rattle.run.specs.States.{stateOf}

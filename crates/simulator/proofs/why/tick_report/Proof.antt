@@ -1,0 +1,88 @@
+-- `simulator::why::tick_report` meets its contract. Assumes nothing.
+use mathlib.Core.Path.{_≡_, refl, sym, _∙_}
+use borrow.Author.Needs.{needs}
+use Rattle.reaction.specs.Rounds.{Before}
+use Rattle.run.specs.States.{stateOf}
+use Rattle.reaction.proofs.StartLaws.{begun-of}
+use Rattle.simulator.proofs.WhyLaws.{begins, report-refused, report-reason}
+use Rattle.simulator.proofs.why.tick_report.Statement.{statement}
+use Rattle.simulator.proofs.why.tick_report.Tie as tie
+
+deadlines-requires : tie.Need-deadlines-requires
+deadlines-requires c κs = search needs
+
+running-requires : tie.Need-running-requires
+running-requires c κs = search needs
+
+due-soon-requires : tie.Need-due-soon-requires
+due-soon-requires c κs = search needs
+
+start-of-requires : tie.Need-start-of-requires
+start-of-requires c κs = search needs
+
+-- where the tick's start is known: the entry, and what the tick begins with
+module _ (c : tie.After-start-of) where
+  abbrev entry : tie.Start
+  entry = c .before .before .before .before .before .before .before
+
+  abbrev due : tie.After-due-soon
+  due = c .before
+
+  known : Before (entry .args .sheet .now) (c .start-of .result) (due .due-soon .result .set)
+  known =
+      begins (entry .args .sheet .now) (entry .pre .0 .passes) (stateOf (entry .args .state)) (entry .pre .1) (due .before .before .before .deadlines .ensures)
+      (due .before .before .running .ensures) (due .due-soon .ensures .0) (c .start-of .ensures)
+
+first-triggered-requires : tie.Need-first-triggered-requires
+first-triggered-requires c κs = (entry c .pre .0, known c, entry c .pre .3)
+
+rounds-requires : tie.Need-rounds-requires
+rounds-requires c κs =
+    let b = entry (c .before) in
+    (b .pre .0, begun-of _ (b .pre .0 .passes) (known (c .before)) (b .pre .3) (c .first-triggered .ensures), b .pre .3)
+
+number-requires : tie.Need-number-requires
+number-requires c κs = search needs
+
+returns : tie.Need-returns
+returns c =
+    let o = c .before .before in
+    let f = o .before in
+    let g = f .before in
+    let b = entry g in
+    report-refused _ (b .pre .0 .passes) _ (b .pre .1) (due g .before .before .before .deadlines .ensures) (due g .before .before .running .ensures)
+    (due g .due-soon .ensures .0) (b .pre .3) (b .pre .2) (g .start-of .ensures) (f .first-triggered .ensures) (o .rounds .ensures) refl
+    (λ e. c .if1 .taken (c .before .number .ensures ∙ e))
+
+reason-requires : tie.Need-reason-requires
+reason-requires c κs =
+    let o = c .before .before in
+    let f = o .before in
+    let b = entry (f .before) in
+    (b .pre .0, begun-of _ (b .pre .0 .passes) (known (f .before)) (b .pre .3) (f .first-triggered .ensures), b .pre .3, o .rounds .ensures, b .pre .2)
+
+returns-2 : tie.Need-returns-2
+returns-2 c =
+    let n = c .before .before in
+    let o = n .before in
+    let f = o .before in
+    let g = f .before in
+    let b = entry g in
+    report-reason _ (b .pre .0 .passes) _ (b .pre .1) (due g .before .before .before .deadlines .ensures) (due g .before .before .running .ensures)
+    (due g .due-soon .ensures .0) (b .pre .3) (b .pre .2) (g .start-of .ensures) (f .first-triggered .ensures) (o .rounds .ensures)
+    (sym (n .number .ensures) ∙ c .before .if1 .left) (c .reason .ensures)
+
+pub tick-report-spec : {M : Type 1} → statement M
+tick-report-spec =
+    tie.close
+    (tie.spec
+    deadlines-requires
+    running-requires
+    due-soon-requires
+    start-of-requires
+    first-triggered-requires
+    rounds-requires
+    number-requires
+    returns
+    reason-requires
+    returns-2)
