@@ -14,14 +14,15 @@ use borrow.Author.Tests.{eqb-true, eqb-false, lt-ltb, le-ltb}
 use Rattle.meaning.specs.Lists.{overwritten}
 use Rattle.meaning.specs.Run.{State, Run}
 use Rattle.meaning.specs.SheetRun.{NumberedRun, sheetRun}
+use Rattle.meaning.specs.Why.{Report, refusalOf, reasonWords, why}
 use Rattle.meaning.specs.TableRun.{tableRun}
 use Rattle.meaning.specs.Compile.{Compiled, compile}
 use Rattle.meaning.specs.Within.{Masked, masksOf}
 use Rattle.run.specs.States.{wordsOf, stateIn}
-use Rattle.native.specs.Calls.{compileCall, WithinCall, withinCall, callShort, RunCall, runCall, sheetCounts, sheetCall, tableCall}
+use Rattle.native.specs.Calls.{compileCall, WithinCall, withinCall, callShort, RunCall, runCall, sheetCounts, sheetCall, tableCall, whyCall}
 
 -- a row of stores at the front
-sets-front : (vs l : List ℕ) → length vs ≤ length l → sets l 0 vs ≡ overwritten vs l
+pub sets-front : (vs l : List ℕ) → length vs ≤ length l → sets l 0 vs ≡ overwritten vs l
 unfolding overwritten
 sets-front vs l h = sets-eq vs l 0 (omega arith) ∙ ap (λ (n : ℕ). vs ++ drop n l) (zero-add (length vs))
 
@@ -68,28 +69,28 @@ module _ (sheet table work info : List ℕ) where
 -- ---- runs
 
 -- fewer words lent than asked for, in info or in the state; or enough
-module _ (counts state info : List ℕ) where
-  call-short : (length info < length counts) ⊎ (ltb (length state) 65 ≡ true) → callShort counts state info ≡ true
+module _ (n : ℕ) (state info : List ℕ) where
+  call-short : (length info < n) ⊎ (ltb (length state) 65 ≡ true) → callShort n state info ≡ true
   unfolding callShort
-  call-short (inl h) = rw (lt-ltb (length info) (length counts) h)
+  call-short (inl h) = rw (lt-ltb (length info) n h)
   call-short (inr h) = rw (h, or-true)
 
-  call-enough : length counts ≤ length info → 65 ≤ length state → callShort counts state info ≡ false
+  call-enough : n ≤ length info → 65 ≤ length state → callShort n state info ≡ false
   unfolding callShort
-  call-enough h k = rw (le-ltb (length info) (length counts) h, le-ltb (length state) 65 k)
+  call-enough h k = rw (le-ltb (length info) n h, le-ltb (length state) 65 k)
 
 module _ (o : Run) (counts state out info : List ℕ) where
   pub run-nothing : (length info < length counts) ⊎ (ltb (length state) 65 ≡ true)
       → record { answer = 4294967295; state = state; out = out; info = info } ≡ runCall o counts state out info
   unfolding runCall
-  run-nothing h = rw (call-short counts state info h)
+  run-nothing h = rw (call-short (length counts) state info h)
 
   -- the state and the counts put into lent words
   pub run-answered : length counts ≤ length info → 65 ≤ length state → (answer : ℕ) (words : List ℕ)
       → answer ≡ o .refusal → words ≡ overwritten (wordsOf (o .state)) state
       → record { answer = answer; state = words; out = o .out; info = sets info 0 counts } ≡ runCall o counts state out info
   unfolding runCall
-  run-answered h k answer words a w = rw (call-enough counts state info h k, a, w, sets-front counts info h)
+  run-answered h k answer words a w = rw (call-enough (length counts) state info h k, a, w, sets-front counts info h)
 
 -- the counts of a sheet run, its rounds as whole times 2^32 and the rest
 counted : (o : Run) (whole low : ℕ) → o .rounds ≡ whole * 2 ^ 32 + low → low < 2 ^ 32 → o .done ∷ whole ∷ low ∷ [] ≡ sheetCounts o
@@ -105,7 +106,7 @@ module _ (sheet state inputs out numbers info : List ℕ) where
       → record { call = record { answer = 4294967295; state = state; out = out; info = info }; numbers = numbers }
       ≡ sheetCall sheet state inputs out numbers info
   unfolding sheetCall runCall sheetCounts
-  sheet-nothing h = rw (call-short (sheetCounts (sheetRun sheet (stateIn state) inputs out numbers .run)) state info h)
+  sheet-nothing h = rw (call-short 3 state info h)
 
   -- o: what was run from the state q that the words hold
   pub sheet-answered : 3 ≤ length info → 65 ≤ length state → (o : NumberedRun) (q : State) → q ≡ stateIn state → o ≡ sheetRun sheet q inputs out numbers
@@ -120,10 +121,26 @@ module _ (sheet state inputs out numbers info : List ℕ) where
   sheet-answered h k o q qe e whole low n l answer words a w =
       let f : o ≡ sheetRun sheet (stateIn state) inputs out numbers = e ∙ ap (λ (x : State). sheetRun sheet x inputs out numbers) qe in
       let c : o .run .done ∷ whole ∷ low ∷ [] ≡ sheetCounts (o .run) = counted (o .run) whole low n l in
-      rw (← f, ← c, call-enough (o .run .done ∷ whole ∷ low ∷ []) state info h k)
+      rw (← f, ← c, call-enough 3 state info h k)
       (ap (λ (x : RunCall). record { call = x; numbers = o .numbers }) (run-answered (o .run) (o .run .done ∷ whole ∷ low ∷ []) state out info h k answer words a w))
 
 module _ (table state inputs out info : List ℕ) (o : Run) (q : State) (qe : q ≡ stateIn state) (e : o ≡ tableRun table q inputs out) where
   pub table-call : runCall o (o .done ∷ []) state out info ≡ tableCall table state inputs out info
   unfolding tableCall
   table-call = let f : o ≡ tableRun table (stateIn state) inputs out = e ∙ ap (λ (x : State). tableRun table x inputs out) qe in rw (← f) refl
+
+-- ---- why
+
+module _ (sheet state : List ℕ) (input transition : ℕ) (info : List ℕ) where
+  pub why-nothing : (length info < 3) ⊎ (ltb (length state) 65 ≡ true) → record { answer = 4294967295; info = info } ≡ whyCall sheet state input transition info
+  unfolding whyCall
+  why-nothing h = rw (call-short 3 state info h)
+
+  -- o: what was reported of the state q that the words hold
+  module _ (h : 3 ≤ length info) (k : 65 ≤ length state) {q : State} (qe : q ≡ stateIn state) {o : Report} (e : o ≡ why sheet q input transition) where
+    pub why-answered : {answer : ℕ} {words : List ℕ} → answer ≡ refusalOf o → words ≡ overwritten (reasonWords o) info
+        → record { answer = answer; info = words } ≡ whyCall sheet state input transition info
+    unfolding whyCall
+    why-answered a w =
+        let f : o ≡ why sheet (stateIn state) input transition = e ∙ ap (λ (x : State). why sheet x input transition) qe in
+        rw (call-enough 3 state info h k, a, w, f)

@@ -7,6 +7,7 @@ use lib.ListN.{length}
 use Rattle.meaning.specs.Lists.{overwritten}
 use Rattle.meaning.specs.Run.{Run}
 use Rattle.meaning.specs.SheetRun.{sheetRun}
+use Rattle.meaning.specs.Why.{refusalOf, reasonWords, why}
 use Rattle.meaning.specs.TableRun.{tableRun}
 use Rattle.meaning.specs.Compile.{compile}
 use Rattle.meaning.specs.Within.{masksOf}
@@ -45,9 +46,9 @@ pub record RunCall : Type 0 where
   pub out : List ℕ
   pub info : List ℕ
 
--- fewer words lent than asked for: as many as the counts in info, 65 in the state
-unfoldable pub callShort : List ℕ → List ℕ → List ℕ → Bool
-callShort counts state info = ltb (length info) (length counts) || ltb (length state) 65
+-- fewer words lent than asked for: n in info, 65 in the state
+unfoldable pub callShort : ℕ → List ℕ → List ℕ → Bool
+callShort n state info = ltb (length info) n || ltb (length state) 65
 
 -- a call that ran, puts its state into 65 words and its counts into info
 unfoldable pub runCall : Run → List ℕ → List ℕ → List ℕ → List ℕ → RunCall
@@ -55,7 +56,7 @@ runCall o counts state out info =
     let nothing : RunCall = record { answer = 4294967295; state = state; out = out; info = info } in
     let done : RunCall =
     record { answer = o .refusal; state = overwritten (wordsOf (o .state)) state; out = o .out; info = overwritten counts info } in
-    cond (callShort counts state info) nothing done
+    cond (callShort (length counts) state info) nothing done
 
 -- the counts of a sheet run: ticks done, the total of rounds as whole times 2^32 and the rest; of a table run: ticks done
 unfoldable pub sheetCounts : Run → List ℕ
@@ -69,9 +70,21 @@ unfoldable pub sheetCall : List ℕ → List ℕ → List ℕ → List ℕ → L
 sheetCall sheet state inputs out numbers info =
     let o = sheetRun sheet (stateIn state) inputs out numbers in
     let counts = sheetCounts (o .run) in
-    record { call = runCall (o .run) counts state out info; numbers = cond (callShort counts state info) numbers (o .numbers) }
+    record { call = runCall (o .run) counts state out info; numbers = cond (callShort (length counts) state info) numbers (o .numbers) }
 
 unfoldable pub tableCall : List ℕ → List ℕ → List ℕ → List ℕ → List ℕ → RunCall
 tableCall table state inputs out info =
     let o = tableRun table (stateIn state) inputs out in
     runCall o (o .done ∷ []) state out info
+
+pub record WhyCall : Type 0 where
+  pub answer : ℕ
+  pub info : List ℕ
+
+-- the reason's number and its values go into the first 3 words; of a refusal none do
+unfoldable pub whyCall : List ℕ → List ℕ → ℕ → ℕ → List ℕ → WhyCall
+whyCall sheet state input transition info =
+    let o = why sheet (stateIn state) input transition in
+    let nothing : WhyCall = record { answer = 4294967295; info = info } in
+    let done : WhyCall = record { answer = refusalOf o; info = overwritten (reasonWords o) info } in
+    cond (callShort 3 state info) nothing done

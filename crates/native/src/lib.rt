@@ -3,6 +3,7 @@
 // With fewer words in `info` or in the state than asked for, a call does nothing and answers 4294967295.
 ghost use mathlib.Core.Path.{_≡_};
 ghost use mathlib.Core.Bool.{cond};
+ghost use mathlib.Core.List.{[], _∷_};
 ghost use Prim.Native.Nat.{_≤_};
 ghost use lib.ListN.{length};
 ghost use Rattle.meaning.specs.Lists.{overwritten};
@@ -10,8 +11,9 @@ ghost use Rattle.meaning.specs.Check.{sheetRefusal};
 ghost use Rattle.meaning.specs.Table.{tableOk};
 ghost use Rattle.meaning.specs.Acceptance.{acceptRefusal};
 ghost use Rattle.meaning.specs.Milliseconds.{milliseconds};
-ghost use Rattle.native.specs.Calls.{compileCall, withinCall, sheetCall, tableCall};
+ghost use Rattle.native.specs.Calls.{compileCall, withinCall, sheetCall, tableCall, whyCall};
 use meaning::refusal::number;
+use reaction::why::Why;
 use run::state::STATE_WORDS;
 use run::state::from_words;
 use run::state::put_state;
@@ -154,4 +156,41 @@ pub extern "C" fn modechart_table_run(
     info[0] = ran.done.0 as u64;
     put_state(state, ran.state);
     number(why)
+}
+
+// A reason's number and its values put at the front of lent words; answers 0.
+fn put_reason(info: &mut [u64], reason: u32, first: u32, second: u32) -> u32
+    requires { ⌜ 3 ≤ length (now info) ⌝ }
+    ensures { λ r. ⌜ (r ≡ 0) × (now (info .exit) ≡ overwritten (reason ∷ first ∷ second ∷ []) (now (info .entry))) ⌝ }
+{
+    info[0] = reason as u64;
+    info[1] = first as u64;
+    info[2] = second as u64;
+    0
+}
+
+// info: the reason (0 source never active, 1 never triggered, 2 gave way, 3 taken) and two values: for 2 the transition that it gave
+// way to, for 3 the round and the alternative, else 0. A refusal leaves info as it was. The state is not changed.
+#[no_mangle]
+pub extern "C" fn modechart_why(
+    sheet: &[u32],
+    state: &[u32],
+    input: u32,
+    transition: u32,
+    info: &mut [u64],
+) -> u32
+    ensures { λ r. ⌜ record { answer = r; info = now (info .exit) }
+        ≡ whyCall (now (sheet .entry)) (now (state .entry)) input transition (now (info .entry)) ⌝ }
+{
+    if info.len() < 3 || state.len() < STATE_WORDS {
+        return NOTHING_DONE;
+    }
+    let why = simulator::why::why(sheet, from_words(state), input, transition);
+    match why {
+        Why::Refused(refusal) => number(refusal),
+        Why::NeverActive => put_reason(info, 0, 0, 0),
+        Why::NeverTriggered => put_reason(info, 1, 0, 0),
+        Why::GaveWay(to) => put_reason(info, 2, to, 0),
+        Why::Taken(round, alternative) => put_reason(info, 3, round, alternative as u32),
+    }
 }
