@@ -1,7 +1,7 @@
 #!/usr/bin/env bash
 # cases.sh: writes the stored cases of the conformance program and their answers: charts drawn by shared/oracle, then hostile
-# tables, directed cases and tables from elsewhere, whose refusals are held against those that stand in their lists. landed.txt
-# has the requests of document 02 that have landed.
+# tables, directed cases and tables from elsewhere, whose refusals, and the reasons of why, are held against those that stand in
+# their lists. landed.txt has the requests of document 02 that have landed.
 set -eu
 cd "$(dirname "$0")/.."
 oracle=../shared/oracle
@@ -18,4 +18,6 @@ asks=$(cat tools/landed.txt)
 python3 $oracle/answers.py --asks "$asks" < $stored/stdin > $stored/stdout
 
 expected=$(for list in hostile_tables directed_cases foreign_tables; do python3 tools/$list.py --refusals; done)
-diff <(cut -d' ' -f1,2 <<< "$expected") <(tail -n "$(wc -l <<< "$expected")" $stored/stdout | cut -d' ' -f1,2)
+given=$(tail -n "$(wc -l <<< "$expected")" $stored/stdout)
+diff <(cut -d' ' -f1,2 <<< "$expected") <(cut -d' ' -f1,2 <<< "$given")
+diff <(python3 tools/directed_cases.py --reasons) <(grep '^why ' <<< "$given")

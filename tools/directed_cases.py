@@ -2,6 +2,7 @@
 
     directed_cases.py               the cases, as the conformance program reads them, without the 0 that ends a stream
     directed_cases.py --refusals    for each answer its word, the refusal that the documents give, and the case's name
+    directed_cases.py --reasons     the answers that the documents give to the cases why
 
 Tables that break the layout stand in hostile_tables.py.
 """
@@ -776,6 +777,326 @@ NUMBERED = [
 ]
 
 
+# ---------------------------------------------------------------- why a transition stayed put
+
+NEVER_ACTIVE, NEVER_TRIGGERED = "0 0", "0 1"
+
+
+def gave_way_to(transition):
+    return f"0 2 {transition}"
+
+
+def taken_in(rnd, alternative):
+    """Taken in this round by this alternative, 9 for a delay."""
+    return f"0 3 {rnd} {alternative}"
+
+
+def numbered(arrows, order):
+    """The arrows in this order of their names; each is made from the numbers of all."""
+    number = {name: at for at, name in enumerate(order)}
+    return [arrows[name](number) for name in order]
+
+
+def gives_way_twice(order):
+    """3 -> 4 gives way to u in round 1, to v in round 3, and is never taken; w goes back in between."""
+    arrows = {"t": lambda of: arrow(3, 4, on(0)), "u": lambda of: arrow(6, 8, on(0)),
+              "w": lambda of: arrow(8, 7, taken(of["u"])), "v": lambda of: arrow(7, 9, taken(of["w"]))}
+    return sheet(1, [*BOTH, atomic()], *numbered(arrows, order))
+
+
+def gives_way_to_two(order):
+    """3 -> 4 gives way to the due timers a, which gives way itself, and u in round 1, to v in round 3."""
+    arrows = {"t": lambda of: arrow(3, 4, on(0)), "a": lambda of: arrow(2, 5, after(1)),
+              "u": lambda of: arrow(1, 6, after(1)), "w": lambda of: arrow(6, 1, after(0)),
+              "v": lambda of: arrow(1, 7, taken(of["w"]))}
+    return sheet(1, [*DEEP, atomic()], *numbered(arrows, order))
+
+
+def due(order):
+    """The timers a and u of gives_way_to_two at reading 1."""
+    return mask(0, 1, 2, 3), {order.index("a"): 1, order.index("u"): 1}
+
+
+def tour(leaves):
+    """The leaves of a tree in the order in which they are left, each once on every level, the lowest level first; what is
+    entered is the next one, at the end the first again."""
+    if len(leaves) == 1:
+        return []
+    left, right = leaves[:len(leaves) // 2], leaves[len(leaves) // 2:]
+    return tour(left) + left[:1] + tour(right) + right[:1] + sum(map(list, zip(left[1:], right[1:])), [])
+
+
+def rounds_64(order):
+    """32 modes, 64 transitions and as many rounds. Modes 15 to 30 are the leaves of a tree of serial modes; the transition of
+    round r + 1 has the number order[r] and is taken by its alternative r % 8 + 1. A leaf that is entered again triggers what
+    was taken from it before, and that gives way."""
+    modes = [serial((m - 1) // 2 if m else 0, 2 * m + 1) for m in range(15)]
+    modes += [atomic((m - 1) // 2) for m in range(15, 31)] + [atomic()]
+    path, arrows = tour(list(range(15, 31))) + [31], [None] * 64
+    for r, number in enumerate(order):
+        term = taken(order[r - 1]) if r else on(0)
+        arrows[number] = arrow(path[r], path[r + 1], *[exited(0), OR] * (r % 8), term)
+    return sheet(1, modes, *arrows)
+
+
+# the numbers of six transitions, by their event, and the level of each; level 0 is the highest
+HIGH, AT_LEVEL = [0, 1, 31, 32, 62, 63], [3, 7, 0, 9, 5, 1]
+
+
+def levels_15():
+    """32 modes: each serial one has the next one and an atomic one within it. 33 on level 10 and 5 on level 12 are triggered
+    on every input set, those of HIGH on their events, the others never."""
+    modes = [serial(0, 1)]
+    for i in range(15):
+        modes += [serial(max(2 * i - 1, 0), 2 * i + 3), atomic(max(2 * i - 1, 0))]
+    triggered = {33: (10, active(0)), 5: (12, active(0))}
+    triggered |= {number: (level, on(event)) for event, (number, level) in enumerate(zip(HIGH, AT_LEVEL))}
+    others = [(2 * i, 2 * j) for i in range(1, 16) for j in range(1, 16) if i != j]
+    arrows = []
+    for number in range(64):
+        if number in triggered:
+            level, term = triggered[number]
+            arrows.append(arrow(2 * level + 1, 2 * level + 2, term))
+        else:
+            arrows.append(arrow(*others[number], taken(number)))
+    return sheet(6, [*modes, atomic(29)], *arrows)
+
+
+AT_START = (START, {0: 4, 2: 2})        # of CLOCKS
+PASSING = [GO, arrow(2, 3, taken(0)), arrow(2, 1, entered(3))]
+AGAIN = [arrow(2, 3, on(0)), arrow(1, 4, after(1)), arrow(4, 1, after(0))]
+THREE_LEVELS = [arrow(3, 4, on(0)), arrow(2, 5, on(0)), arrow(1, 6, on(0))]
+
+# sheets, and of each: a name, the answer, the state, the input set, the transition
+REASONS = [
+    (EXAMPLE, [
+        # the transition's number
+        ("transition T - 1", NEVER_ACTIVE, FRESH, 0, 1),
+        *[(f"16: transition {t}", 16, FRESH, 0, t) for t in (2, 3, 31, 32, 33, 63, 64, 65, 2 ** 31, TOP - 1, TOP)],
+        # whether the source was active
+        ("never active", NEVER_ACTIVE, (mask(0, 1), {}), 0, 1),
+        ("entered by the last round: active", NEVER_TRIGGERED, (mask(0, 1), {}), 1, 1),
+        ("entered by the last round of power-on: active", NEVER_TRIGGERED, FRESH, 1, 1),
+        ("an event that is absent", NEVER_TRIGGERED, FRESH, 0, 0),
+        ("taken at power-on", taken_in(1, 1), FRESH, 1, 0),
+        ("left by the last round, taken", taken_in(1, 1), (mask(0, 1), {}), 1, 0),
+        ("entered by a due timer, then taken on the event", taken_in(2, 1), (mask(0, 2), {1: 1}), 1, 0),
+        ("reading 2", NEVER_TRIGGERED, (mask(0, 2), {1: 2}), 1, 1),
+        ("reading 1", taken_in(1, 9), (mask(0, 2), {1: 1}), 0, 1),
+        ("a reading of 0", 14, (mask(0, 2), {}), 0, 1),
+        ("a reading of its delay + 1", 14, (mask(0, 2), {1: 3}), 0, 1),
+        ("reading 1, the source of the other is entered", NEVER_TRIGGERED, (mask(0, 2), {1: 1}), 0, 0)]),
+    (CLOCKS, [
+        # the order of the refusals
+        ("14 before 16", 14, (START, {0: 5, 2: 2}), 0, 4),
+        ("14 before 13", 14, (START, {0: 5, 2: 2}), 2, 0),
+        ("14 before 16 and 13", 14, (START, {0: 5, 2: 2}), 2, 4),
+        ("fresh with a reading: 14 before 16", 14, (0, {0: 1}), 0, TOP),
+        ("16 alone", 16, AT_START, 0, 4),
+        ("16 before 13", 16, AT_START, 2, 4),
+        ("fresh: 16 before 13", 16, FRESH, TOP, TOP),
+        ("13: a bit at k", 13, AT_START, 2, 0),
+        ("13: bits at k - 1 and k", 13, AT_START, 3, 0),
+        ("13: bit 31", 13, AT_START, 2 ** 31, 3),
+        ("13 where the source is not active", 13, AT_START, 2, 1),
+        ("fresh: 13", 13, FRESH, 2, 0),
+        # readings
+        ("a timer at its delay", NEVER_TRIGGERED, AT_START, 0, 0),
+        ("a timer at reading 2", NEVER_TRIGGERED, (START, {0: 2, 2: 1}), 0, 0),
+        ("a timer at reading 1", taken_in(1, 9), (START, {0: 1, 2: 2}), 0, 0),
+        ("the other timer is due", taken_in(1, 9), (START, {0: 2, 2: 1}), 0, 2),
+        ("a delay of 0 that a due timer leads to", taken_in(2, 9), (START, {0: 2, 2: 1}), 0, 3),
+        ("a delay of 0, its source is not active", NEVER_ACTIVE, AT_START, 0, 3),
+        ("a delay of 0 from a set that no run reaches", taken_in(1, 9), (mask(0, 1, 2, 4, 6), {0: 4}), 0, 3),
+        ("a timer that starts again in this tick", NEVER_TRIGGERED, (mask(0, 1, 2, 4, 6), {0: 4}), 0, 2),
+        ("in one of two regions: entered by a due timer, then taken on the event", taken_in(2, 1), (START, {0: 1, 2: 2}), 1, 1),
+        ("a timer at power-on", NEVER_TRIGGERED, FRESH, 0, 0),
+        ("not entered at power-on", NEVER_ACTIVE, FRESH, 1, 1)]),
+    (sheet(1, TWO), [(f"no transition: {t}", 16, FRESH, 0, t) for t in (0, 1, 63, 64, TOP)]
+        + [("no transition, 14 before 16", 14, (mask(0, 3), {}), 0, 0), ("no transition, 16 before 13", 16, FRESH, 2, 0)]),
+    (sheet(0, [atomic()]), [("one mode and no transition", 16, (1, {}), 0, 0)]),
+    (sheet(1, TWO, GO), [("one transition: 0", taken_in(1, 1), FRESH, 1, 0), ("one transition: 1", 16, FRESH, 1, 1)]),
+    # refused ticks
+    (sheet(1, THREE, GO, arrow(1, 3, on(0)), arrow(3, 1, off(0))), [
+        ("8: one of the two", 8, FRESH, 1, 0),
+        ("8: the other of the two", 8, FRESH, 1, 1),
+        ("8: its source is not active", 8, FRESH, 1, 2),
+        ("14 before 8", 14, (0, {0: 1}), 1, 0),
+        ("16 before 8", 16, FRESH, 1, 3),
+        ("13 before 8", 13, FRESH, 3, 0),
+        ("no 8 on the other input set", NEVER_TRIGGERED, FRESH, 0, 0)]),
+    (sheet(1, TWO, GO, arrow(2, 1, on(0))), [
+        ("9: taken in round 1", 9, FRESH, 1, 0),
+        ("9: taken in round 2", 9, FRESH, 1, 1),
+        ("14 before 9", 14, (mask(0), {}), 1, 0),
+        ("16 before 9", 16, FRESH, 1, 2),
+        ("13 before 9", 13, FRESH, 3, 1),
+        ("no 9 on the other input set", NEVER_ACTIVE, FRESH, 0, 1)]),
+    (sheet(1, regions(2, 4), GO_2, arrow(5, 6, taken(0)), arrow(5, 7, taken(0)), arrow(8, 5, on(0)), arrow(3, 2, off(0))), [
+        ("8 in round 2: taken in round 1", 8, FRESH, 1, 0),
+        ("8 in round 2: never active", 8, FRESH, 1, 3),
+        ("8 in round 2: active and never triggered", 8, FRESH, 1, 4),
+        ("8 in round 2: not on the other input set", NEVER_ACTIVE, FRESH, 0, 3)]),
+    (sheet(1, regions(2, 3), *RESTLESS, arrow(5, 6, on(0)), arrow(7, 5, on(0))), [
+        ("9 in round 3: another region's, taken in round 1", 9, FRESH, 1, 2),
+        ("9 in round 3: never active", 9, FRESH, 1, 3)]),
+    (sheet(1, BOTH, *SIDES, arrow(8, 6, taken(1)), arrow(7, 6, off(0))), [
+        ("9: gave way in round 1", 9, FRESH, 1, 0),
+        ("9: never active", 9, FRESH, 1, 3)]),
+    (UNSURE_AT_ONCE, [("8 at power-on", 8, FRESH, 0, 0), ("8 at power-on only", NEVER_ACTIVE, (mask(0, 2), {}), 0, 1)]),
+    (UNEASY_AT_ONCE, [("9 at power-on", 9, FRESH, 0, 0), ("9 at power-on only", NEVER_TRIGGERED, (mask(0, 1), {}), 0, 0)]),
+    # whether the source was active in the tick
+    (sheet(1, THREE, *PASSING, arrow(1, 3, taken(1)), arrow(3, 1, exited(1), off(0))), [
+        ("passed through, never triggered", NEVER_TRIGGERED, FRESH, 1, 2),
+        ("passed through, taken", taken_in(2, 1), FRESH, 1, 1),
+        ("active as the tick began alone, its terms hold once it is left", NEVER_TRIGGERED, FRESH, 1, 3),
+        ("active as the tick began alone, taken", taken_in(1, 1), (mask(0, 1), {}), 1, 0),
+        ("entered by the last round, one of two terms holds", NEVER_TRIGGERED, FRESH, 1, 4),
+        ("not passed through", NEVER_ACTIVE, FRESH, 0, 2),
+        ("active as the tick began, in a tick without a round", NEVER_TRIGGERED, (mask(0, 2), {}), 1, 1)]),
+    (sheet(1, NEST, arrow(2, 6, on(0)), arrow(1, 4, off(0), on(0)), arrow(3, 2, on(0)), arrow(5, 3, on(0)),
+           arrow(4, 1, off(0), on(0)), arrow(6, 5, off(0))), [
+        ("a serial source that is left", NEVER_TRIGGERED, FRESH, 1, 1),
+        ("a serial source that is entered with its target inside", NEVER_TRIGGERED, FRESH, 1, 4),
+        ("a mode of it that is not passed", NEVER_ACTIVE, FRESH, 1, 2),
+        ("the first mode of the target's parent", NEVER_ACTIVE, FRESH, 1, 3),
+        ("the target", NEVER_TRIGGERED, FRESH, 1, 5),
+        ("within a mode that is not active", NEVER_ACTIVE, FRESH, 0, 3)]),
+    (sheet(1, INNER, arrow(1, 4, on(0)), arrow(2, 3, taken(0)), arrow(4, 2, taken(0), off(0)), arrow(3, 2, off(0))), [
+        ("left with the mode that holds it", NEVER_TRIGGERED, FRESH, 1, 1),
+        ("entered from outside, never triggered", NEVER_TRIGGERED, FRESH, 1, 2),
+        ("not the first mode, on an event's absence", NEVER_ACTIVE, FRESH, 0, 3)]),
+    (sheet(0, regions(2, 3), arrow(2, 3, entered(2)), arrow(5, 6, after(0)), arrow(6, 7, after(1)), arrow(7, 5, after(0))), [
+        ("power-on: entered", taken_in(1, 1), FRESH, 0, 0),
+        ("power-on: a delay of 0", taken_in(1, 9), FRESH, 0, 1),
+        ("power-on: a timer entered by a delay of 0", NEVER_TRIGGERED, FRESH, 0, 2),
+        ("power-on: a delay of 0, not entered", NEVER_ACTIVE, FRESH, 0, 3),
+        ("k = 0: 13", 13, FRESH, 1, 0),
+        ("k = 0: a timer and two delays of 0", taken_in(1, 9), (mask(0, 1, 3, 4, 6), {2: 1}), 0, 2),
+        ("k = 0: the first delay of 0", taken_in(2, 9), (mask(0, 1, 3, 4, 6), {2: 1}), 0, 3),
+        ("k = 0: the second delay of 0", taken_in(3, 9), (mask(0, 1, 3, 4, 6), {2: 1}), 0, 1),
+        ("k = 0: entered in an earlier tick", NEVER_TRIGGERED, (mask(0, 1, 2, 4, 6), {2: 1}), 0, 0)]),
+    # rounds and alternatives
+    (sheet(1, flat(13), arrow(1, 2, on(0)), *[arrow(m, m + 1, taken(m - 2)) for m in range(2, 13)]),
+     [(f"round {t + 1} of twelve", taken_in(t + 1, 1), FRESH, 1, t) for t in range(12)]),
+    (EIGHT, [
+        *[(f"alternative {e + 1} of eight", taken_in(1, e + 1), AT_5, 1 << e, 0) for e in range(6)],
+        ("alternative 7 of eight", taken_in(1, 7), AT_6, 0, 0),
+        ("alternative 8 of eight", taken_in(1, 8), AT_7, 0, 0),
+        ("none of eight", NEVER_TRIGGERED, AT_5, 0, 0),
+        ("the lowest of eight", taken_in(1, 1), AT_7, 63, 0),
+        ("the lowest of three", taken_in(1, 3), AT_6, 36, 0),
+        ("k = 6: bit 6", 13, AT_5, 64, 0), ("k = 6: bit 31", 13, AT_5, 2 ** 31, 0), ("k = 6: all bits", 13, AT_5, TOP, 0)]),
+    (sheet(1, regions(2, 2), arrow(2, 3, entered(6), OR, on(0)), arrow(5, 6, on(0)), arrow(3, 2, off(0))), [
+        ("a lower alternative would hold a round later", taken_in(1, 2), FRESH, 1, 0)]),
+    (sheet(1, regions(2, 2, 2), arrow(2, 3, on(0)), arrow(5, 6, exited(8), OR, entered(3)),
+           arrow(8, 9, exited(5), off(0), OR, taken(1), OR, entered(6))), [
+        ("each round has its own alternative: the first", taken_in(1, 1), FRESH, 1, 0),
+        ("each round has its own alternative: the second", taken_in(2, 2), FRESH, 1, 1),
+        ("each round has its own alternative: the third", taken_in(3, 2), FRESH, 1, 2)]),
+    # giving way
+    (sheet(1, DEEP, *THREE_LEVELS), [
+        ("gave way to two, the lower one gives way itself", gave_way_to(1), FRESH, 1, 0),
+        ("gave way to the one above", gave_way_to(2), FRESH, 1, 1),
+        ("the highest of three levels", taken_in(1, 1), FRESH, 1, 2),
+        ("three levels, no event", NEVER_TRIGGERED, FRESH, 0, 0)]),
+    (sheet(1, DEEP, *THREE_LEVELS[::-1]), [
+        ("gave way to two, the lower one is taken", gave_way_to(0), FRESH, 1, 2),
+        ("gave way to the one above, rows exchanged", gave_way_to(0), FRESH, 1, 1)]),
+    (sheet(1, DEEP, THREE_LEVELS[1], THREE_LEVELS[0], THREE_LEVELS[2]), [
+        ("gave way to two, one lower than itself, which gives way", gave_way_to(0), FRESH, 1, 1),
+        ("the one of them that gives way", gave_way_to(2), FRESH, 1, 0)]),
+    (sheet(1, DEEP, arrow(3, 5, on(0)), arrow(2, 5, on(0)), arrow(3, 4, on(0)), arrow(1, 6, on(0))), [
+        ("two of equal meeting modes, both give way: the first", gave_way_to(3), FRESH, 1, 0),
+        ("two of equal meeting modes, both give way: the second", gave_way_to(3), FRESH, 1, 1),
+        ("gave way to the lower of two of equal meeting modes", gave_way_to(0), FRESH, 1, 2)]),
+    (sheet(2, DEEP, arrow(2, 5, on(1)), *THREE_LEVELS[::2]), [
+        ("one above that is not triggered has a lower number", gave_way_to(2), FRESH, 1, 1),
+        ("one above that is triggered has a lower number", gave_way_to(0), FRESH, 3, 1),
+        ("one above alone", taken_in(1, 1), FRESH, 2, 0)]),
+    (sheet(1, [parallel(), serial(0, 3), serial(0, 5), *[atomic(1)] * 2, serial(2, 6), *[atomic(5)] * 2, atomic(2)],
+           arrow(3, 4, on(0)), arrow(6, 7, on(0)), arrow(5, 8, on(0))), [
+        ("a higher level beside is taken, and so is it", taken_in(1, 1), FRESH, 1, 0),
+        ("gave way in its own region, another region's has a lower number", gave_way_to(2), FRESH, 1, 1)]),
+    (sheet(1, BOTH, *SIDES), [
+        ("gave way to another region's that leaves", gave_way_to(1), FRESH, 1, 0),
+        ("the other region's leaves", taken_in(1, 1), FRESH, 1, 1)]),
+    (sheet(1, DEEP, arrow(3, 6, on(0)), arrow(2, 5, on(0))), [
+        ("the outer source gave way to the inner one", gave_way_to(0), FRESH, 1, 1),
+        ("the inner source is taken", taken_in(1, 1), FRESH, 1, 0)]),
+    (sheet(0, INNER, arrow(2, 3, after(2)), arrow(1, 4, after(2)), arrow(4, 1, taken(1))), [
+        ("a due timer gave way, its source is entered again", gave_way_to(1), (mask(0, 1, 2), {0: 1, 1: 1}), 0, 0),
+        ("a due timer, the one above is not due", taken_in(1, 9), (mask(0, 1, 2), {0: 1, 1: 2}), 0, 0),
+        ("a timer that is not due, the one above is", NEVER_TRIGGERED, (mask(0, 1, 2), {0: 2, 1: 1}), 0, 0),
+        ("the one above is due", taken_in(1, 9), (mask(0, 1, 2), {0: 1, 1: 1}), 0, 1)]),
+    (sheet(1, INNER, arrow(4, 1, on(0)), arrow(2, 3, taken(0)), arrow(1, 4, off(0), OR, entered(1))), [
+        ("9: passed through", 9, (mask(0, 4), {}), 1, 1)]),
+    (sheet(1, [*INNER, atomic()], arrow(4, 1, on(0)), arrow(2, 3, taken(0)), arrow(1, 5, off(0), OR, entered(1))), [
+        ("passed through, gave way there", gave_way_to(2), (mask(0, 4), {}), 1, 1),
+        ("passed through, taken there", taken_in(2, 2), (mask(0, 4), {}), 1, 2)]),
+    # giving way in several rounds, giving way and being taken
+    *[(gives_way_twice(order), [(name, gave_way_to(order.index("u")), FRESH, 1, order.index("t"))])
+      for name, order in (("gave way twice, first to the lower", "tuvw"), ("gave way twice, first to the higher", "tvuw"),
+                          ("gave way twice, first to the lower, itself the highest", "uvwt"),
+                          ("gave way twice, first to the higher, itself the highest", "vuwt"),
+                          ("gave way twice, first to the lower, itself in between", "utwv"),
+                          ("gave way twice, first to the higher, itself in between", "vtwu"))],
+    *[(gives_way_to_two(order), [(name, gave_way_to(order.index(to)), due(order), 1, order.index("t"))])
+      for name, order, to in (("gave way to two, then to one: the lowest of all first", "atuwv", "a"),
+                              ("gave way to two, then to one: the lowest of all last", "vtauw", "a"),
+                              ("gave way to two, then to one: the lowest of all last, the one taken next", "vtuaw", "u"),
+                              ("gave way to two, then to one: the lowest of all last, itself the highest", "vwuat", "u"))],
+    (sheet(1, INNER, *AGAIN), [
+        ("gave way, then taken in round 3", taken_in(3, 1), (mask(0, 1, 2), {1: 1}), 1, 0),
+        ("the one that it gave way to", taken_in(1, 9), (mask(0, 1, 2), {1: 1}), 1, 1),
+        ("a delay of 0 in round 2", taken_in(2, 9), (mask(0, 1, 2), {1: 1}), 1, 2)]),
+    (sheet(1, BOTH, arrow(3, 4, entered(8), OR, on(0)), arrow(6, 8, on(0)), arrow(8, 7, taken(1))), [
+        ("gave way by alternative 2, then taken by alternative 1", taken_in(3, 1), FRESH, 1, 0)]),
+    (sheet(1, BOTH, arrow(3, 4, entered(2), off(0), OR, taken(2), OR, on(0)), arrow(6, 8, on(0)), arrow(8, 7, taken(1))), [
+        ("gave way by alternative 3, then taken by alternative 2", taken_in(3, 2), FRESH, 1, 0)]),
+    (sheet(1, INNER, arrow(2, 3, exited(3), OR, on(0)), arrow(3, 2, taken(0)), arrow(1, 4, taken(1))), [
+        ("taken by alternative 2, then gave way by alternative 1", taken_in(1, 2), FRESH, 1, 0),
+        ("taken in between", taken_in(2, 1), FRESH, 1, 1)]),
+    (sheet(1, [*BOTH, atomic()], arrow(3, 4, on(0)), arrow(6, 8, on(0)), arrow(8, 7, taken(1)), arrow(4, 3, taken(0)),
+           arrow(7, 9, taken(3))), [
+        ("gave way, taken, gave way again", taken_in(3, 1), FRESH, 1, 0),
+        ("taken after it", taken_in(4, 1), FRESH, 1, 3)]),
+    # high numbers
+    (MANY, [
+        ("transition 31 of 64", taken_in(1, 1), (mask(0, 4), {t: 9 for t in range(24, 31)}), 1, 31),
+        ("transition 32 of 64", taken_in(1, 1), (mask(0, 5), {t: 9 for t in range(33, 40)}), 1, 32),
+        ("transition 63 of 64", taken_in(1, 1), (mask(0, 9), {}), 1, 63),
+        ("transition 62 of 64", NEVER_ACTIVE, (mask(0, 9), {}), 1, 62),
+        ("transition 0 of 64", NEVER_ACTIVE, (mask(0, 9), {}), 0, 0),
+        ("a timer of many", NEVER_TRIGGERED, (mask(0, 4), {t: 9 for t in range(24, 31)}), 1, 30),
+        ("entered by the last round, with eight timers", NEVER_TRIGGERED, (mask(0, 9), {}), 1, 7),
+        ("16: 64 of 64", 16, FRESH, 0, 64), ("16: 2^32 - 1 of 64", 16, FRESH, 0, TOP)]),
+    (FULL, [
+        ("mode 31 with its timer", taken_in(1, 9), (mask(0, 31), {0: 1}), 0, 0),
+        ("mode 31 entered by a timer", NEVER_TRIGGERED, (mask(0, 1), {1: 1}), 0, 0),
+        ("mode 31 not active", NEVER_ACTIVE, (mask(0, 30), {}), 0, 0)]),
+    (rounds_64(range(64)), [(f"64 rounds: {t}", taken_in(t + 1, t % 8 + 1), FRESH, 1, t) for t in range(64)]
+        + [("64 rounds, no event: a first mode", NEVER_TRIGGERED, FRESH, 0, 0),
+           ("64 rounds, no event: not a first mode", NEVER_ACTIVE, FRESH, 0, 63)]),
+    (rounds_64(range(63, -1, -1)), [(f"64 rounds, the last first: {t}", taken_in(64 - t, (63 - t) % 8 + 1), FRESH, 1, t)
+                                    for t in (0, 1, 31, 32, 62, 63)]),
+    (levels_15(), [
+        ("15 levels: none above is triggered", taken_in(1, 1), FRESH, 0, 33),
+        ("15 levels: one within gave way to it", gave_way_to(33), FRESH, 0, 5),
+        *[(f"15 levels: gave way to {number} alone", gave_way_to(number), FRESH, 1 << e, 33) for e, number in enumerate(HIGH)],
+        *[(f"15 levels: gave way to {number}, the lowest of those from it on", gave_way_to(number), FRESH, 64 - (1 << e), 33)
+          for e, number in enumerate(HIGH)],
+        ("15 levels: one within gave way to 32, not to 33", gave_way_to(32), FRESH, 8, 5),
+        ("15 levels: 0 gave way to 31", gave_way_to(31), FRESH, 63, 0),
+        ("15 levels: 0 gave way to 63", gave_way_to(63), FRESH, 33, 0),
+        ("15 levels: 32 gave way to 1", gave_way_to(1), FRESH, 14, 32),
+        ("15 levels: 63 gave way to 31", gave_way_to(31), FRESH, 63, 63),
+        ("15 levels: 31 is on the highest", taken_in(1, 1), FRESH, 63, 31),
+        ("15 levels: never active", NEVER_ACTIVE, FRESH, 63, 30),
+        ("15 levels: entered, never triggered", NEVER_TRIGGERED, FRESH, 4, 2)]),
+]
+
+
 # ---------------------------------------------------------------- masks of the modes within each mode
 
 def chain(count):
@@ -817,6 +1138,10 @@ def run_case(case, name, refusal, state, inputs, outputs):
     return name, word, refusal, [case, *state_numbers(state), len(inputs), *inputs, outputs]
 
 
+def why_case(name, answer, state, given, transition):
+    return name, "why", answer, [11, *state_numbers(state), given, transition]
+
+
 def numbers_case(name, refusal, state, inputs, outputs, numbers):
     return name, "alternatives", refusal, [15, *state_numbers(state), len(inputs), *inputs, outputs, numbers]
 
@@ -831,6 +1156,8 @@ def state_cases():
         yield check_case("states", 0, words)
         for name, refusal, state in states:
             yield run_case(2, name, refusal, state, [0], 5)
+            if refusal:
+                yield why_case(name, refusal, state, 0, 0)
     yield compile_case("states of a table", 0, 200, 8)
     for name, refusal, state in TABLE_STATES:
         yield run_case(4, name, refusal, state, [0], 5)
@@ -851,6 +1178,11 @@ def broken_cases():
         yield run_case(2, f"{refusal} before 14", refusal, (0, {0: 1}), [], 0)
         yield run_case(2, f"{refusal} before 12 and 13", refusal, FRESH, [TOP], 4)
         yield numbers_case(f"{refusal} before too few numbers", refusal, FRESH, [0], 5, 63)
+        yield why_case(f"{refusal} alone", refusal, FRESH, 0, 0)
+        yield why_case(f"{refusal} before 14", refusal, (0, {0: 1}), 0, 0)
+        yield why_case(f"{refusal} before 16", refusal, FRESH, 0, TOP)
+        yield why_case(f"{refusal} before 13", refusal, FRESH, TOP, 0)
+        yield why_case(f"{refusal} before 14, 16 and 13", refusal, (0, {0: 1}), TOP, TOP)
         yield compile_case(f"{refusal} before 10 and 11", refusal, 0, 0)
         yield compile_case(f"{refusal} leaves the work list", refusal, 20, 4)
         yield run_case(4, f"{refusal} leaves no table, 15 before 14 and 12", 15, (0, {0: 1}), [0], 4)
@@ -867,6 +1199,13 @@ def tick_cases():
             yield run_case(4, name, of_run, FRESH, inputs, 5 * len(inputs))
 
 
+def reason_cases():
+    for words, questions in REASONS:
+        yield check_case("why", 0, words)
+        for question in questions:
+            yield why_case(*question)
+
+
 def compile_cases(compiles):
     for name, refusal, words, table, work in compiles:
         yield check_case(name, 0, words)
@@ -874,7 +1213,7 @@ def compile_cases(compiles):
 
 
 def stream():
-    """Name, answer's word, refusal and numbers of each case."""
+    """Name, answer's word, refusal (of a case why: its answer) and numbers of each case."""
     for name, refusal, words in SHEETS:
         yield check_case(name, refusal, words)
         yield masks_case(name, refusal)
@@ -887,6 +1226,7 @@ def stream():
     for name, refusal, words, state, inputs in FIRED:
         yield check_case(name, 0, words)
         yield numbers_case(name, refusal, state, inputs, 5 * len(inputs) + 2, 64 * len(inputs) + 3)
+    yield from reason_cases()
     yield from compile_cases(COMPILES)
     yield from compile_cases(LARGE_COMPILES)
     for name, refusal, tick, delays, results in CONVERSIONS:
@@ -894,8 +1234,13 @@ def stream():
 
 
 def main(words):
-    for name, word, refusal, numbers in stream():
-        print(word, refusal, name) if words == ["--refusals"] else print(*numbers)
+    for name, word, answer, numbers in stream():
+        if words == ["--refusals"]:
+            print(word, answer, name)
+        elif words != ["--reasons"]:
+            print(*numbers)
+        elif word == "why":
+            print(word, answer)
 
 
 if __name__ == "__main__":

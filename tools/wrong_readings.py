@@ -42,8 +42,10 @@ FUNCTIONS = """
     sheet_tick run_sheet cell_tick cell_numbers compile_sheet table_words table_layout_ok block_at timers_of delay_of
     cell_at table_tick run_table""".split()
 ELSEWHERE = {"ages", "aged", "somewhere"}           # names of requests that have not landed
-ADDED = ["within_masks", "milliseconds", "check_table", "table_is_true"]
-CALLED = {"modechart.py": ["State", "check", "compile_sheet", "run_sheet", "run_table"], "asks.py": ADDED}
+ADDED = ["why", "Why.answer", "within_masks", "milliseconds", "check_table", "table_is_true"]
+# what the answers call; the second file imports the first
+CALLED = {"modechart.py": ["State", "check", "compile_sheet", "run_sheet", "run_table"],
+          "asks.py": ["why", "within_masks", "milliseconds", "check_table"]}
 LARGE = 1.0                 # seconds from which a part of the cases is left out for forced readings
 
 
@@ -104,9 +106,7 @@ FORCED = {
         ("Chart.consistent", "m != 0", "m != 1"), ("Chart.consistent", "m != 0", "m != -1")],
     "a set without the root lacks a member's parent, or is 0; then the state is fresh or has a reading too many": [
         ("Chart.consistent", "0 not in modes", "False")],
-    "it is asked only whether one gives way": [
-        ("react", "[u for u in triggered if gives_way(chart, t, u, edition)]",
-         "[t for u in triggered if gives_way(chart, t, u, edition)]")],
+    "one that is triggered and is taken in no round gave way": [("why", "rnd.gave_way", "rnd.triggered")],
     "as the rounds begin, active is the current modes": [
         ("tick", BEGIN, BEGIN.replace("modes", "active")), ("tick", BEGIN, BEGIN.replace("active", "modes"))],
     "of the triggered one with the highest meeting mode does not give way": [
@@ -187,9 +187,9 @@ def cases():
         case, start = numbers[at], at
         if case in (1, 24):
             at += 2 + numbers[at + 1]
-        elif case in (2, 4, 15):
+        elif case in (2, 4, 11, 15):
             at += 3 + 2 * numbers[at + 2]
-            at += (3 if case == 15 else 2) + numbers[at]
+            at += 2 if case == 11 else (3 if case == 15 else 2) + numbers[at]
         elif case == 17:
             at += 4 + numbers[at + 2]
         else:
@@ -250,12 +250,14 @@ OTHER = {ast.BitOr: (ast.BitAnd, ast.Sub), ast.BitAnd: (ast.BitOr, ast.Sub), ast
 # names that may be taken for each other, where a function has both
 ALIKE = {"source": ["target"], "target": ["source"], "entered": ["exited", "active"], "exited": ["entered"],
          "active": ["entered", "modes"], "modes": ["active"], "into": ["out", "entered"], "out": ["into"],
-         "eligible": ["triggered"], "triggered": ["eligible"], "low": ["high"], "high": ["low"], "a": ["b"], "b": ["a"],
-         "ma": ["mb"], "mb": ["ma"], "s": ["t"], "t": ["s", "u"], "u": ["t"], "parent": ["first"], "first": ["parent"],
-         "n": ["T", "k"], "k": ["T", "n"], "T": ["n", "k", "B"], "B": ["T"], "offset": ["length", "end"],
-         "end": ["offset"], "readings": ["lowered"], "lowered": ["readings"], "inputs": ["out"], "work": ["table"],
-         "state": ["after"], "mask": ["after"], "masks": ["blocks"], "blocks": ["masks"], "timers": ["cells"],
-         "kind": ["value"]}
+         "eligible": ["triggered", "gave_way"], "triggered": ["eligible"], "gave_way": ["triggered"], "low": ["high"],
+         "high": ["low"], "a": ["b"], "b": ["a"], "ma": ["mb"], "mb": ["ma"], "s": ["t"], "t": ["s", "u"], "u": ["t"],
+         "parent": ["first"], "first": ["parent"], "n": ["T", "k"], "k": ["T", "n"], "T": ["n", "k", "B"], "B": ["T"],
+         "offset": ["length", "end"], "end": ["offset"], "readings": ["lowered"], "lowered": ["readings"],
+         "inputs": ["out"], "work": ["table"], "state": ["after"], "mask": ["after"], "masks": ["blocks"],
+         "blocks": ["masks"], "timers": ["cells"], "kind": ["value"], "to": ["round"], "round": ["to", "alternative"],
+         "alternative": ["round"], "NEVER_ACTIVE": ["NEVER_TRIGGERED"], "NEVER_TRIGGERED": ["NEVER_ACTIVE", "GAVE_WAY"],
+         "GAVE_WAY": ["TAKEN"], "TAKEN": ["GAVE_WAY"]}
 
 
 def is_number(node):
@@ -470,7 +472,7 @@ def functions(tree):
 
 
 def readings(file, source, wanted):
-    """(name, key, code) of each wrong reading of a file by a rule; the key is what FORCED has."""
+    """(name, key, code by file) of each wrong reading of a file by a rule; the key is what FORCED has."""
     tree = Landing().visit(ast.parse(source))
     for name, function in functions(tree).items():
         if wanted and name not in wanted:
@@ -485,20 +487,21 @@ def readings(file, source, wanted):
                 keys[before, after] = keys.get((before, after), 0) + 1
                 number = keys[before, after]
                 key = (name, before, after) if number == 1 else (name, before, after, number)
-                yield name, key, compile(tree, file, "exec")
+                yield name, key, {file: compile(tree, file, "exec")}
             undo()
 
 
-def readings_by_hand(file, source, wanted):
-    """The same of the readings written by hand."""
+def readings_by_hand(sources, wanted):
+    """The same of the readings written by hand, which may change both files."""
     for name, changes in by_hand():
-        if file != "modechart.py" or wanted and name not in wanted and "by hand" not in wanted:
+        if wanted and name not in wanted and "by hand" not in wanted:
             continue
-        text = "\n" + source
+        texts = {file: "\n" + source for file, source in sources.items()}
         for old, new in changes:
-            assert text.count(old) == 1, f"{name}: does not stand once in the interpreter:\n{old}"
-            text = text.replace(old, new)
-        yield "by hand", name, compile(text, file, "exec")
+            places = [file for file, text in texts.items() for _ in range(text.count(old))]
+            assert len(places) == 1, f"{name}: does not stand once in the interpreter:\n{old}"
+            texts[places[0]] = texts[places[0]].replace(old, new)
+        yield "by hand", name, {file: compile(text, file, "exec") for file, text in texts.items()}
 
 
 def by_hand():
@@ -531,7 +534,19 @@ def parsed_once(parse):
     return parsed
 
 
-def trial(code, stored, order, limits, pipe):
+def loaded(codes):
+    """The interpreter of these codes by file, for the answers to call."""
+    for file, names in CALLED.items():
+        module = types.ModuleType(file[:-3])
+        sys.modules[module.__name__] = module
+        exec(codes[file], module.__dict__)
+        if file == "modechart.py":
+            module.parse = parsed_once(module.parse)
+        for name in names:
+            setattr(answers, name, getattr(module, name))
+
+
+def trial(codes, stored, order, limits, pipe):
     """In a process of its own: answers the parts in order; the first that differs is written to the pipe."""
     resource.setrlimit(resource.RLIMIT_AS, (2 ** 30, 2 ** 30))
     sys.setrecursionlimit(400)
@@ -543,13 +558,8 @@ def trial(code, stored, order, limits, pipe):
 
     signal.signal(signal.SIGVTALRM, lambda *_: end(SLOW))
     try:
-        module = types.ModuleType("wrong")
-        sys.modules["wrong"] = module
         signal.setitimer(signal.ITIMER_VIRTUAL, 5)
-        exec(code, module.__dict__)
-        module.parse = parsed_once(module.parse)
-        for name in CALLED[code.co_filename]:
-            setattr(answers, name, getattr(module, name))
+        loaded(codes)
         for state["part"] in order:
             signal.setitimer(signal.ITIMER_VIRTUAL, limits[state["part"]])
             if differs(stored[state["part"]], LANDED):
@@ -559,13 +569,13 @@ def trial(code, stored, order, limits, pipe):
     end(0)
 
 
-def tried(code, stored, order, limits):
+def tried(codes, stored, order, limits):
     """How a reading is seen, and by which part."""
     out, into = os.pipe()
     child = os.fork()
     if child == 0:
         os.close(out)
-        trial(code, stored, order, limits, into)
+        trial(codes, stored, order, limits, into)
     os.close(into)
     said = os.read(out, 100).decode().split()
     os.close(out)
@@ -594,18 +604,18 @@ def main(words):
     limits = [5 + 10 * t for t in times]
     cheap = sorted(range(len(stored)), key=lambda i: times[i])
     forced = {key: reason for reason, keys in FORCED.items() for key in keys} | FORCED_BY_HAND
-    for name, source in sources.items():
-        how, part = tried(compile(source, name, "exec"), stored, cheap, limits)
-        assert not how, f"the interpreter itself is seen by part {part}"
+    right = {file: compile(source, file, "exec") for file, source in sources.items()}
+    how, part = tried(right, stored, cheap, limits)
+    assert not how, f"the interpreter itself is seen by part {part}"
     lately = {}                                 # the parts that saw readings of the same function, the latest first
     counts, unseen = {0: 0, SEEN: 0, ERROR: 0, SLOW: 0, "forced": 0}, 0
-    for name, key, code in chain.from_iterable(
-            chain(readings(file, source, wanted), readings_by_hand(file, source, wanted)) for file, source in sources.items()):
+    by_rule = chain.from_iterable(readings(file, source, wanted) for file, source in sources.items())
+    for name, key, wrong in chain(by_rule, readings_by_hand(sources, wanted)):
         first = lately.setdefault(name, [])
         order = first + [i for i in cheap if i not in first]
         if key in forced or "--small" in words:
             order = [i for i in order if times[i] < LARGE]
-        how, part = tried(code, stored, order, limits)
+        how, part = tried(right | wrong, stored, order, limits)
         if how:
             first[:] = [part] + [i for i in first if i != part][:20]
         if key in forced and not how:

@@ -15,9 +15,9 @@ pub struct Read {
 }
 
 // A state, and what is left after it.
-struct StateRead {
-    state: State,
-    input: Input,
+pub struct StateRead {
+    pub state: State,
+    pub input: Input,
 }
 
 // A run asked for: the state, how many input sets, how many output words; and what is left after it.
@@ -70,13 +70,18 @@ fn read_pairs(buf: &mut [u8; 65536], from: Input, at: u32, pairs: usize) -> Stat
     }
 }
 
+// Reads a state.
+pub fn read_state(buf: &mut [u8; 65536], from: Input) -> StateRead {
+    let at = text::number(buf, from);
+    let pairs = text::number(buf, at.input);
+    read_pairs(buf, pairs.input, at.value, text::at_most(pairs.value, 64))
+}
+
 // Reads a state, the input sets and the number of output words of a run.
 pub fn read_run(buf: &mut [u8; 65536], from: Input, inputs: &mut [u32]) -> Asked
     ensures { λ r. ⌜ (r .inputs ≤ length (now (inputs .entry))) × (r .outputs ≤ 400) ⌝ }
 {
-    let at = text::number(buf, from);
-    let pairs = text::number(buf, at.input);
-    let read = read_pairs(buf, pairs.input, at.value, text::at_most(pairs.value, 64));
+    let read = read_state(buf, from);
     let m = text::number(buf, read.input);
     let count = text::at_most(m.value, inputs.len());
     let after = text::numbers(buf, m.input, &mut inputs[..count]);

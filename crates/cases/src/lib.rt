@@ -5,4 +5,5 @@ pub mod compile_case;
 pub mod milliseconds_case;
 pub mod sheet_case;
 pub mod table_case;
+pub mod why_case;
 pub mod within_case;

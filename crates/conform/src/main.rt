@@ -11,6 +11,7 @@ use cases::compile_case;
 use cases::milliseconds_case;
 use cases::sheet_case;
 use cases::table_case;
+use cases::why_case;
 use cases::within_case;
 
 // The text that is left, how many words the current sheet has, how many table words are lent, and how many of them the current
@@ -77,7 +78,7 @@ fn answer(buf: &mut [u8; 65536], sheet: &mut [u32], table: &mut [u32], from: Lef
     }
 }
 
-// A case that leaves the current sheet as it is: a run of it, its masks, the current table checked against it.
+// A case that leaves the current sheet as it is: a run of it, a transition asked about, its masks, the current table checked against it.
 fn answer_sheet(
     buf: &mut [u8; 65536],
     sheet: &[u32],
@@ -99,6 +100,7 @@ fn answer_sheet(
             lent,
             length,
         ),
+        11 => next(why_case::why(buf, input, sheet), words, lent, length),
         13 => {
             within_case::masks(sheet);
             next(input, words, lent, length)

@@ -4,23 +4,14 @@ use borrow.Author.Needs.{needs}
 use Rattle.case_text.proofs.parts.read_run.Statement.{statement}
 use Rattle.case_text.proofs.parts.read_run.Tie as tie
 
+read-state-requires : tie.Need-read-state-requires
+read-state-requires c κs = search needs
+
 number-requires : tie.Need-number-requires
 number-requires c κs = search needs
 
-number-requires-2 : tie.Need-number-requires-2
-number-requires-2 c κs = search needs
-
 at-most-requires : tie.Need-at-most-requires
 at-most-requires c κs = search needs
-
-read-pairs-requires : tie.Need-read-pairs-requires
-read-pairs-requires c κs = search needs
-
-number-requires-3 : tie.Need-number-requires-3
-number-requires-3 c κs = search needs
-
-at-most-requires-2 : tie.Need-at-most-requires-2
-at-most-requires-2 c κs = search needs
 
 slice-relend-prefix-numbers : tie.Need-slice-relend-prefix-numbers
 slice-relend-prefix-numbers c = search needs
@@ -31,11 +22,11 @@ slice-aggregate-numbers c = simp length-take (search needs)
 numbers-requires : tie.Need-numbers-requires
 numbers-requires c κs = search needs
 
-number-requires-4 : tie.Need-number-requires-4
-number-requires-4 c κs = search needs
+number-requires-2 : tie.Need-number-requires-2
+number-requires-2 c κs = search needs
 
-at-most-requires-3 : tie.Need-at-most-requires-3
-at-most-requires-3 c κs = search needs
+at-most-requires-2 : tie.Need-at-most-requires-2
+at-most-requires-2 c κs = search needs
 
 same-length : tie.Need-same-length
 same-length c = search needs
@@ -46,6 +37,6 @@ returns c = search needs
 pub read-run-spec : {M : Type 1} → statement M
 read-run-spec =
     tie.close
-    (tie.spec number-requires number-requires-2 at-most-requires read-pairs-requires number-requires-3
-    at-most-requires-2 slice-relend-prefix-numbers slice-aggregate-numbers numbers-requires number-requires-4
-    at-most-requires-3 same-length returns)
+    (tie.spec read-state-requires number-requires
+    at-most-requires slice-relend-prefix-numbers slice-aggregate-numbers numbers-requires number-requires-2
+    at-most-requires-2 same-length returns)
