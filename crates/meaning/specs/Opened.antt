@@ -1,7 +1,7 @@
 -- The names that a proof by computing unfolds, in one place, file by file: whoever unfolds `opened` unfolds every definition of the
 -- meaning. Assumes nothing.
 use mathlib.Core.List.{flatten}
-use Rattle.sets.specs.Sets.{digit, has, minus, unionOf, setOf, those, members, size, lowest, some, every, someIn, everyIn}
+use Rattle.sets.specs.Sets.{digit, has, minus, unionOf, setOf, those, members, size, lowest, last, some, every, someIn, everyIn}
 use Rattle.meaning.specs.Lists.{rowFrom, isIn, place, overwritten, allOf, firstOf, refusedIf, firstRefusal}
 use Rattle.meaning.specs.Sheet.{word, nOf, kOf, tOf, kind, parent, first, offset, recordLength, endBefore, source, target, termCount, termKind, termValue, isChild, containsIn, contains, strictlyContains, meetingFrom, meetingOf, meeting}
 use Rattle.meaning.specs.Check.{headOk, modeOk, modesOk, pairOk, pairsOk, endOk, endsOk, kindOk, termOk, termsOk, sharesEnds, distinctOk, sheetRefusal}
@@ -26,7 +26,7 @@ use Rattle.meaning.specs.Acceptance.{acceptRefusal}
 use Rattle.meaning.specs.NamedEvents.{names}
 
 unfoldable in-sets : Unit {0}
-unfolding digit has minus unionOf setOf those members size lowest some every someIn everyIn
+unfolding digit has minus unionOf setOf those members size lowest last some every someIn everyIn
 in-sets = tt
 
 unfoldable in-lists : Unit {0}
