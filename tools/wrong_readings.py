@@ -41,7 +41,7 @@ FUNCTIONS = """
     alternative_that_holds Tick.numbers tick react conflict gives_way State.fresh readings_ok sheet_state_ok table_state_ok
     sheet_tick run_sheet cell_tick cell_numbers compile_sheet table_words table_layout_ok block_at timers_of delay_of
     cell_at table_tick run_table""".split()
-ELSEWHERE = {"ages", "aged", "somewhere"}           # names of requests that have not landed
+ELSEWHERE = {"ages", "aged"}                        # names of requests that have not landed
 ADDED = ["why", "Why.answer", "within_masks", "milliseconds", "check_table", "table_is_true"]
 # what the answers call; the second file imports the first
 CALLED = {"modechart.py": ["State", "check", "compile_sheet", "run_sheet", "run_table"],
@@ -112,7 +112,10 @@ FORCED = {
     "of the triggered one with the highest meeting mode does not give way": [
         ("react", "not eligible", "not triggered")],
     "after the walk each listed set has its block": [
-        ("compile_sheet", "len(masks)", "len(blocks)", 5), ("compile_sheet", "len(masks)", "len(blocks)", 6)],
+        ("compile_sheet", "len(masks)", "len(blocks)", 5), ("compile_sheet", "len(masks)", "len(blocks)", 6),
+        ("compile_sheet", "len(masks)", "len(blocks)", 7)],
+    "the transitions taken somewhere are some of all": [
+        ("compile_sheet", "somewhere != 2 ** chart.T - 1", "somewhere < 2 ** chart.T - 1")],
     "a mode that is active and not current was exited in this tick": [
         ("react", "modes & chart.transitions[t].leaves", "active & chart.transitions[t].leaves")],
     "the state of a refused tick is given by the tick and kept by the run, and both are the one before": [

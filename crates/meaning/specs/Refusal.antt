@@ -26,7 +26,7 @@ numberOf InputSet = 13
 numberOf State = 14
 -- whoever brings a table: `tableOk` (Table) fails, or `isStale` (TableRun) at a tick
 numberOf Layout = 15
--- of a request that has not landed: a transition number at T or above
+-- whoever asks why a transition stayed put: `noTransition` (Why)
 numberOf Transition = 16
 -- whoever brings a table: `faithful` (Faithful) fails
 numberOf Unfaithful = 17

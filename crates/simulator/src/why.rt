@@ -15,11 +15,13 @@ use meaning::refusal::number;
 use planner::put_plan;
 use reaction::plan::Plan;
 use reaction::plan::SIZE;
+use reaction::plan::hits;
 use reaction::plan::running;
 use reaction::plan::timer_delays;
-use reaction::tick::first_triggered;
+use reaction::tick::Sets;
 use reaction::tick::rounds;
 use reaction::tick::start_of;
+use reaction::tick::triggered;
 use reaction::why::Why;
 use reaction::why::reason;
 use run::deadlines::deadlines;
@@ -43,7 +45,15 @@ fn tick_report(sheet: &[u32], plan: &Plan, state: State, input: u32, t: usize) -
     let timers = running(sheet, plan, state.at);
     let due = due_soon(&ends, timers, 1);
     let b = start_of(sheet, plan, state.at);
-    let first = first_triggered(sheet, plan, b, due.set, input);
+    // As `first_triggered`, which is compiled into the loop of the sheet run as long as no other operation calls it.
+    let sure = b.live & (due.set | hits(sheet, plan, input));
+    let z = Sets {
+        modes: b.begun,
+        entered: b.entered,
+        exited: 0,
+        taken: 0,
+    };
+    let first = triggered(sheet, sure, b.unsure, z, b.begun, input);
     let o = rounds(sheet, plan, b.begun, b.entered, first, input);
     let refusal = o.refusal;
     if number(refusal) != 0 {

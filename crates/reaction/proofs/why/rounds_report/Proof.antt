@@ -67,23 +67,33 @@ module _ (e : tie.After-round-of Inv-loop μ-loop) where
   more : let a = entry turn .args in turn .loop .r < all (a .sheet .now) (a .b .begun) (a .b .entered) (a .first) (a .input) .rounds
   more = omega (arith, e .before .if1 .taken, ap (λ (t : Tick). t .rounds) (entry turn .pre .3))
 
+-- back to the round: where it takes t, where it does not, and where it takes t and the words of the tick are made
+abbrev taking : tie.Then2 Inv-loop μ-loop → tie.After-round-of Inv-loop μ-loop
+taking c = c .before .before .before
+
+abbrev passing : tie.Else2 Inv-loop μ-loop → tie.After-round-of Inv-loop μ-loop
+passing c = c .before .before .before
+
+abbrev made : tie.After-facts Inv-loop μ-loop → tie.Then2 Inv-loop μ-loop
+made c = c .before .before .before
+
 -- the words of the tick say of t what its sets say
 by-sets : (c : tie.After-facts Inv-loop μ-loop)
-    → let k = turn (c .before .before .before .before .before .before) in
+    → let k = turn (taking (made c)) in
     let a = entry k .args in
     causeBy (a .sheet .now) (c .facts .result) (a .t) ≡ cause (a .sheet .now) (a .input) (setsOf (a .b .begun) (k .loop .z)) (a .t)
 by-sets c =
-    let k = turn (c .before .before .before .before .before .before) in
+    let k = turn (taking (made c)) in
     let b = entry k in
     let a = b .args in
     ap (λ (f : List ℕ). causeBy (a .sheet .now) f (a .t)) (c .facts .ensures)
     ∙ cause-by (a .sheet .now) (b .pre .0 .passes) (a .t) (b .pre .4) (a .input) (setsOf (a .b .begun) (k .loop .z)) (b .fits .input .fits)
 
 -- the round takes t, or it does not
-takes : (c : tie.Then2 Inv-loop μ-loop) → let e = c .before .before .before in has (e .round-of .result .chosen) (entry (turn e) .args .t) ≡ true
+takes : (c : tie.Then2 Inv-loop μ-loop) → let e = taking c in has (e .round-of .result .chosen) (entry (turn e) .args .t) ≡ true
 takes c = sym (c .before .has .ensures) ∙ c .if2 .taken
 
-passes : (c : tie.Else2 Inv-loop μ-loop) → let e = c .before .before .before in has (e .round-of .result .chosen) (entry (turn e) .args .t) ≡ false
+passes : (c : tie.Else2 Inv-loop μ-loop) → let e = passing c in has (e .round-of .result .chosen) (entry (turn e) .args .t) ≡ false
 passes c = sym (c .before .has .ensures) ∙ c .if2 .left
 
 round-of-requires : tie.Need-round-of-requires Inv-loop μ-loop
@@ -96,36 +106,36 @@ facts-requires : tie.Need-facts-requires Inv-loop μ-loop
 facts-requires c κs = search needs
 
 add-t23 : tie.Need-add-t23 Inv-loop μ-loop
-add-t23 c = omega (arith, few (turn (c .before .before .before .before .before .before)))
+add-t23 c = omega (arith, few (turn (taking (made c))))
 
 cause-requires : tie.Need-cause-requires Inv-loop μ-loop
 cause-requires c κs =
     let f = c .before in
-    let e = f .before .before .before .before .before .before in
+    let e = taking (made f) in
     let k = turn e in
     let b = entry k in (
       b .pre .0 .passes,
       b .pre .4,
       subst (λ (n : ℕ). T (ltb 0 n)) (sym (by-sets f))
-          (caused (k .loop .inv .left) (b .args .t) (subst (λ (x : ℕ). T (has x (b .args .t))) (e .round-of .ensures .chosen) (of-true (takes (f .before .before .before)))) .1),
+          (caused (k .loop .inv .left) (b .args .t) (subst (λ (x : ℕ). T (has x (b .args .t))) (e .round-of .ensures .chosen) (of-true (takes (made f)))) .1),
     )
 
 returns : tie.Need-returns Inv-loop μ-loop
 returns c =
     let f = c .before .before in
-    let e = f .before .before .before .before .before .before in
+    let e = taking (made f) in
     let k = turn e in
     ap (takenIn (k .loop .r + 1)) (c .cause .ensures ∙ by-sets f)
-    ∙ round-takes (k .loop .inv) (more e) (e .round-of .ensures) (takes (f .before .before .before))
+    ∙ round-takes (k .loop .inv) (more e) (e .round-of .ensures) (takes (made f))
 
 has-requires-2 : tie.Need-has-requires-2 Inv-loop μ-loop
-has-requires-2 c κs = below (turn (c .before .before .before))
+has-requires-2 c κs = below (turn (passing c))
 
 has-requires-3 : tie.Need-has-requires-3 Inv-loop μ-loop
-has-requires-3 c κs = below (turn (c .before .before .before .before .before))
+has-requires-3 c κs = below (turn (passing (c .before .before)))
 
 ahead-of-requires : tie.Need-ahead-of-requires Inv-loop μ-loop
-ahead-of-requires c κs = let k = turn (c .before .before .before .before .before .before .before) in (entry k .pre .0, left-small (k .loop .inv .left), entry k .pre .4)
+ahead-of-requires c κs = let k = turn (passing (c .before .before .before .before)) in (entry k .pre .0, left-small (k .loop .inv .left), entry k .pre .4)
 
 lowest-requires : tie.Need-lowest-requires Inv-loop μ-loop
 lowest-requires c κs = search needs
@@ -142,7 +152,7 @@ module _ (c : tie.After-ahead-of Inv-loop μ-loop) where
   out = held .before .before
 
   abbrev here : tie.At-loop Inv-loop μ-loop
-  here = turn (out .before .before .before)
+  here = turn (passing out)
 
   abbrev asked : tie.Start Inv-loop μ-loop
   asked = entry here
@@ -158,7 +168,7 @@ module _ (c : tie.After-ahead-of Inv-loop μ-loop) where
 
   filled : 0 < c .ahead-of .result
   filled =
-      let e = out .before .before .before in
+      let e = passing out in
       let s = asked .args .sheet .now in
       ⊎-elim (λ z. absurd (ahead-some s (here .loop .ts) (asked .args .t) (asked .pre .4) (of-true triggers)
       (ap (λ (x : ℕ). has x (asked .args .t)) (sym (e .round-of .ensures .chosen)) ∙ passes out) (sym ahead ∙ z))) (λ p. p) (eq-zero-or-pos (c .ahead-of .result))
@@ -172,7 +182,7 @@ cast-t30 c = let l = lowest-member 64 _ (fits (c .before)) (filled (c .before)) 
 returns-2 : tie.Need-returns-2 Inv-loop μ-loop
 returns-2 c =
     let a = c .before in
-    let e = out a .before .before .before in
+    let e = passing (out a) in
     let s = asked a .args .sheet .now in
     ap gaveWayTo (c .lowest .ensures ∙ lowest-width 64 (tOf s) (fits a) (subst (λ (x : ℕ). x < 2 ^ tOf s) (sym (a .ahead-of .ensures)) (those-lt (tOf s) _ _)) (filled a) ∙ ap (lowest (tOf s)) (ahead a))
     ∙ round-gives-way (here a .loop .inv) (more e) (e .round-of .ensures) (passes (out a)) (ap₂ _&&_ (untaken a) (triggers a))
@@ -194,10 +204,10 @@ loop-less c = omega arith
 
 loop-again : tie.Need-loop-again Inv-loop μ-loop
 loop-again c =
-    let e = c .before .before .before .before .before .before .before .before .before in
+    let held = c .before .before .before .before in
+    let e = passing (held .before .before) in
     let k = turn e in
     let b = entry k in
-    let held = c .before .before .before .before in
     let untaken = not (has (b .args .o .taken) (b .args .t)) in
     let again = has (k .loop .ts) (b .args .t) in
     round-passes (k .loop .inv) (more e) (e .round-of .ensures) (passes (held .before .before))
