@@ -1,8 +1,8 @@
 -- The alternatives by which the transitions of a tick are taken, from its triggered transitions on. Assumes nothing.
 use mathlib.Core.Path.{_≡_, refl, sym, ap, _∙_}
 use mathlib.Core.Bool.{Bool, true, false, not, _||_, cond}
-use mathlib.Core.List.{List, [], _∷_}
-use Prim.Native.Nat.{ℕ, zero, suc, _^_, _<_}
+use mathlib.Core.List.{List}
+use Prim.Native.Nat.{ℕ, suc, _^_, _<_}
 use lib.Dec.{T, eqb, ltb}
 use borrow.Author.Tests.{eq-eqb}
 use Rattle.sets.specs.Sets.{has}
@@ -13,7 +13,7 @@ use Rattle.meaning.specs.Lists.{rowFrom}
 use Rattle.meaning.specs.Sheet.{kOf, tOf, source}
 use Rattle.meaning.specs.Check.{sheetRefusal}
 use Rattle.meaning.specs.Hierarchy.{consistent}
-use Rattle.meaning.specs.Reaction.{TickSets, isDelay, delay, alternative, isDue, trigger, triggered, eligible, ambiguous, restless, afterRound}
+use Rattle.meaning.specs.Reaction.{TickSets, isDelay, delay, alternative, isDue, trigger, triggered, eligible, afterRound}
 use Rattle.meaning.specs.Tick.{begin, chosen}
 use Rattle.meaning.specs.RoundList.{takesRound, roundList, tickRounds}
 use Rattle.meaning.specs.Alternatives.{firedIn, fired, tickNumbers}

@@ -1,9 +1,9 @@
 -- What the rounds of a tick report of a transition, from the triggered transitions on, is what the tick reports. Assumes nothing.
 use mathlib.Core.Path.{_≡_, refl, sym, ap, ap₂, _∙_, subst}
-use mathlib.Core.Bool.{Bool, true, false, not, _&&_, _||_, cond}
-use mathlib.Core.List.{List, [], _∷_, map}
-use Prim.Native.Nat.{ℕ, zero, suc, _^_, _<_}
-use lib.Dec.{T, eqb, ltb}
+use mathlib.Core.Bool.{Bool, true, false, not, _&&_, cond}
+use mathlib.Core.List.{List, _∷_, map}
+use Prim.Native.Nat.{ℕ, suc, _^_, _<_}
+use lib.Dec.{T, ltb}
 use borrow.Author.Tests.{eq-eqb, ne-eqb}
 use Rattle.sets.specs.Sets.{has, those, lowest}
 use Rattle.sets.proofs.Tests.{is-true, is-false, of-true, of-false}
@@ -13,9 +13,9 @@ use Rattle.meaning.specs.Sheet.{kOf, tOf, source}
 use Rattle.meaning.specs.Check.{sheetRefusal}
 use Rattle.meaning.specs.Hierarchy.{consistent}
 use Rattle.meaning.specs.GivesWay.{givesWay}
-use Rattle.meaning.specs.Reaction.{TickSets, trigger, triggered, eligible, ambiguous, restless, afterRound}
+use Rattle.meaning.specs.Reaction.{TickSets, triggered, eligible, afterRound}
 use Rattle.meaning.specs.Tick.{Tick, begin, chosen, tick}
-use Rattle.meaning.specs.RoundList.{takesRound, roundList, tickRounds}
+use Rattle.meaning.specs.RoundList.{roundList, tickRounds}
 use Rattle.meaning.specs.Alternatives.{firedIn, fired}
 use Rattle.meaning.specs.FiredAlternatives.{FiredTaken}
 use Rattle.meaning.specs.Why.{Report, neverActive, neverTriggered, gaveWayTo, takenIn, aheadOf, gaveWayIn, roundIn, reason}

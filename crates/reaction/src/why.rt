@@ -1,6 +1,5 @@
 // Why a transition stayed put in a tick.
 ghost use mathlib.Core.Path.{_≡_};
-ghost use mathlib.Core.Bool.{true};
 ghost use Prim.Native.Nat.{suc, _^_, _<_};
 ghost use Rattle.sets.specs.Sets.{has, those, lowest};
 ghost use Rattle.meaning.specs.Sheet.{kOf, tOf};

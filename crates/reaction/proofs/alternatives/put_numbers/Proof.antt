@@ -4,7 +4,7 @@ use mathlib.Core.Path.{_≡_, sym, ap, _∙_}
 use mathlib.Core.List.{List}
 use Prim.Native.Nat.{ℕ, _+_, _-_, _≤_, _<_}
 use native.Mathlib.Omega.{arith}
-use lib.ListN.{length, getD}
+use lib.ListN.{length}
 use borrow.Author.Needs.{needs}
 use Rattle.sets.specs.Sets.{minus}
 use Rattle.sets.proofs.Tests.{is-true, of-true}
@@ -13,11 +13,10 @@ use Rattle.rows.specs.Over.{over}
 use Rattle.meaning.specs.Lists.{rowFrom}
 use Rattle.meaning.specs.Tick.{Tick}
 use Rattle.meaning.proofs.SheetLaws.{sound, t-le}
-use Rattle.reaction.specs.Plan.{hitsPart, hitsOf}
 use Rattle.reaction.specs.Rounds.{firstSets}
 use Rattle.reaction.proofs.RowLaws.{row-length, row-again}
 use Rattle.reaction.proofs.RoundLoop.{all}
-use Rattle.reaction.proofs.TriggerLaws.{input-lt, mixed-asks}
+use Rattle.reaction.proofs.TriggerLaws.{mixed-asks}
 use Rattle.reaction.proofs.RoundsLeft.{left-small}
 use Rattle.reaction.proofs.FiredLoop.{numbered, Numbered, numbered-start, numbered-none, round-asks, round-laid, round-next, last-asks, last-laid}
 use Rattle.reaction.proofs.alternatives.put_numbers.Statement.{statement}
