@@ -47,21 +47,21 @@ pub fn digest(words: &[u32]) -> u64 {
     h
 }
 
-// A state from where it is and pairs of transition and reading; every other reading is 0. A pair whose transition is above 63
-// is passed over.
+// A state from where it is and pairs: transition and reading, or 64 + mode and age; every other one is 0. A pair that begins
+// above 95 is passed over.
 fn read_pairs(buf: &mut [u8; 65536], from: Input, at: u32, pairs: usize) -> StateRead {
     let mut words = [0u32; STATE_WORDS];
     words[0] = at;
     let mut input = from;
     let mut i = 0;
     while i < pairs {
-        let t = text::number(buf, input);
-        let r = text::number(buf, t.input);
-        let place = text::at_most(t.value, 64);
-        if place < 64 {
-            words[1 + place] = r.value;
+        let of = text::number(buf, input);
+        let value = text::number(buf, of.input);
+        let place = text::at_most(of.value, 96);
+        if place < 96 {
+            words[1 + place] = value.value;
         }
-        input = r.input;
+        input = value.input;
         i += 1;
     }
     StateRead {
@@ -74,7 +74,7 @@ fn read_pairs(buf: &mut [u8; 65536], from: Input, at: u32, pairs: usize) -> Stat
 pub fn read_state(buf: &mut [u8; 65536], from: Input) -> StateRead {
     let at = text::number(buf, from);
     let pairs = text::number(buf, at.input);
-    read_pairs(buf, pairs.input, at.value, text::at_most(pairs.value, 64))
+    read_pairs(buf, pairs.input, at.value, text::at_most(pairs.value, 96))
 }
 
 // Reads a state, the input sets and the number of output words of a run.
@@ -97,21 +97,31 @@ pub fn read_run(buf: &mut [u8; 65536], from: Input, inputs: &mut [u32]) -> Asked
     }
 }
 
-// A state into the line: where it is, then transition and reading for each reading that is not 0. The place after it.
-pub fn put_state(line: &mut [u8; 4096], from: usize, state: State) -> usize
-    requires { ⌜ from ≤ 1024 ⌝ }
-    ensures { λ r. ⌜ r ≤ from + 2709 ⌝ }
+// A number and its value into the line, where the value is not 0; the place after them.
+fn put_pair(line: &mut [u8; 8192], at: usize, n: usize, value: u32) -> usize
+    requires { ⌜ at + 42 ≤ 8192 ⌝ }
+    ensures { λ r. ⌜ r ≤ at + 42 ⌝ }
 {
-    let values = state.readings;
+    if value == 0 {
+        return at;
+    }
+    let end = text::put(line, at, n as u64);
+    text::put(line, end, value as u64)
+}
+
+// A state into the line: where it is, then transition and reading for each reading that is not 0, then 64 + mode and age for
+// each age that is not 0. The place after it.
+pub fn put_state(line: &mut [u8; 8192], from: usize, state: State) -> usize
+    requires { ⌜ from ≤ 1024 ⌝ }
+    ensures { λ r. ⌜ r ≤ from + 4053 ⌝ }
+{
     let mut at = text::put(line, from, state.at as u64);
-    let mut t = 0;
-    while t < 64 {
-        let r = values[t];
-        if r != 0 {
-            at = text::put(line, at, t as u64);
-            at = text::put(line, at, r as u64);
-        }
-        t += 1;
+    let mut words = [0u32; STATE_WORDS];
+    run::state::put_state(&mut words, state);
+    let mut i = 0;
+    while i < 96 {
+        at = put_pair(line, at, i, words[1 + i]);
+        i += 1;
     }
     at
 }

@@ -1,7 +1,7 @@
 // Numbers read from standard input, and lines written to standard output.
 //
 // Safe on any text: a number saturates at 4294967295, a byte that is no digit stands between numbers, and the text ends
-// where a read moves nothing. A line holds 4,096 bytes, and every caller is proved to stay below that.
+// where a read moves nothing. A line holds 8,192 bytes, and every caller is proved to stay below that.
 ghost use Prim.Native.Nat.{_+_, _≤_, _<_};
 ghost use lib.ListN.{length};
 
@@ -115,7 +115,7 @@ pub fn numbers(buf: &mut [u8; 65536], from: Input, words: &mut [u32]) -> Input {
 }
 
 // A line starts with a word; the place after it.
-pub fn start(line: &mut [u8; 4096], word: &[u8]) -> usize
+pub fn start(line: &mut [u8; 8192], word: &[u8]) -> usize
     requires { ⌜ length (now word) ≤ 64 ⌝ }
     ensures { λ r. ⌜ r ≤ 64 ⌝ }
 {
@@ -128,8 +128,8 @@ pub fn start(line: &mut [u8; 4096], word: &[u8]) -> usize
 }
 
 // A blank and a number into the line at a place; the place after them.
-pub fn put(line: &mut [u8; 4096], at: usize, n: u64) -> usize
-    requires { ⌜ at + 21 ≤ 4096 ⌝ }
+pub fn put(line: &mut [u8; 8192], at: usize, n: u64) -> usize
+    requires { ⌜ at + 21 ≤ 8192 ⌝ }
     ensures { λ r. ⌜ r ≤ at + 21 ⌝ }
 {
     let mut digits = [0u8; 20];
@@ -151,8 +151,8 @@ fn send(line: &[u8], count: usize)
 }
 
 // Ends the line at a place and writes it.
-pub fn write(line: &mut [u8; 4096], at: usize)
-    requires { ⌜ at < 4096 ⌝ }
+pub fn write(line: &mut [u8; 8192], at: usize)
+    requires { ⌜ at < 8192 ⌝ }
 {
     line[at] = 10;
     send(line, at + 1);

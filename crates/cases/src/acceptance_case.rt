@@ -5,7 +5,7 @@ use meaning::refusal::number;
 
 // Case 14: the current table against the current sheet.
 pub fn accept_table(sheet: &[u32], table: &[u32]) {
-    let mut line = [0u8; 4096];
+    let mut line = [0u8; 8192];
     let why = accept(sheet, table);
     let mut at = text::start(&mut line, b"foreign");
     at = text::put(&mut line, at, number(why) as u64);

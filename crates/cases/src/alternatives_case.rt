@@ -27,7 +27,7 @@ fn digest_numbers(numbers: &[u8]) -> u64 {
 
 // Writes the line of a sheet run, with the digests of its output words and of its numbers.
 fn write_alternatives(ran: Ran, outputs: u64, numbers: u64) {
-    let mut line = [0u8; 4096];
+    let mut line = [0u8; 8192];
     let state = ran.state;
     let mut at = text::start(&mut line, b"alternatives");
     at = put_counts(&mut line, at, ran);

@@ -25,7 +25,7 @@ fn blank(words: &mut [u32]) {
 
 // Writes the line of a compilation, with the digests of the table words lent and of the work list.
 fn write_compile(compiled: Compiled, table: u64, work: u64) {
-    let mut line = [0u8; 4096];
+    let mut line = [0u8; 8192];
     let refusal = compiled.refusal;
     let mut at = text::start(&mut line, b"compile");
     at = text::put(&mut line, at, number(refusal) as u64);

@@ -8,7 +8,7 @@ use milliseconds::in_ticks;
 
 // Converts the delays and writes the line, with the digest of the result words.
 fn write_conversion(tick: u32, delays: &[u32], results: &mut [u32]) {
-    let mut line = [0u8; 4096];
+    let mut line = [0u8; 8192];
     let refusal = in_ticks(tick, delays, results);
     let mut at = text::start(&mut line, b"milliseconds");
     at = text::put(&mut line, at, number(refusal) as u64);

@@ -16,7 +16,7 @@ use simulator::sheet_run::Ran;
 
 // Writes the line of a check.
 fn write_check(refusal: Refusal) {
-    let mut line = [0u8; 4096];
+    let mut line = [0u8; 8192];
     let mut at = text::start(&mut line, b"check");
     at = text::put(&mut line, at, number(refusal) as u64);
     text::write(&mut line, at);
@@ -45,7 +45,7 @@ pub fn check(buf: &mut [u8; 65536], from: Input, sheet: &mut [u32]) -> Read
 }
 
 // The refusal of a sheet run, its ticks done and its rounds into the line at a place; the place after them.
-pub fn put_counts(line: &mut [u8; 4096], from: usize, ran: Ran) -> usize
+pub fn put_counts(line: &mut [u8; 8192], from: usize, ran: Ran) -> usize
     requires { ⌜ from ≤ 64 ⌝ }
     ensures { λ r. ⌜ r ≤ from + 63 ⌝ }
 {
@@ -58,7 +58,7 @@ pub fn put_counts(line: &mut [u8; 4096], from: usize, ran: Ran) -> usize
 
 // Writes the line of a sheet run, with the digest of its output words.
 fn write_sheet_run(ran: Ran, outputs: u64) {
-    let mut line = [0u8; 4096];
+    let mut line = [0u8; 8192];
     let state = ran.state;
     let mut at = text::start(&mut line, b"sheet");
     at = put_counts(&mut line, at, ran);

@@ -8,7 +8,7 @@ use run::state::State;
 
 // Writes the line of a table run, with the digest of its output words.
 fn write_table_run(ran: Ran, outputs: u64) {
-    let mut line = [0u8; 4096];
+    let mut line = [0u8; 8192];
     let refusal = ran.refusal;
     let state = ran.state;
     let mut at = text::start(&mut line, b"table");

@@ -7,7 +7,7 @@ use meaning::refusal::number;
 use reaction::why::Why;
 
 // No refusal, and the number of a reason, into the line at a place; the place after them.
-fn put_reason(line: &mut [u8; 4096], from: usize, reason: u64) -> usize
+fn put_reason(line: &mut [u8; 8192], from: usize, reason: u64) -> usize
     requires { ⌜ from ≤ 64 ⌝ }
     ensures { λ r. ⌜ r ≤ from + 42 ⌝ }
 {
@@ -16,7 +16,7 @@ fn put_reason(line: &mut [u8; 4096], from: usize, reason: u64) -> usize
 }
 
 // What is reported into the line at a place; the place after it.
-fn put_report(line: &mut [u8; 4096], from: usize, why: Why) -> usize
+fn put_report(line: &mut [u8; 8192], from: usize, why: Why) -> usize
     requires { ⌜ from ≤ 64 ⌝ }
     ensures { λ r. ⌜ r ≤ from + 84 ⌝ }
 {
@@ -38,7 +38,7 @@ fn put_report(line: &mut [u8; 4096], from: usize, why: Why) -> usize
 
 // Case 11: why a transition of the current sheet stayed put in the tick from a state on an input set.
 pub fn why(buf: &mut [u8; 65536], from: Input, sheet: &[u32]) -> Input {
-    let mut line = [0u8; 4096];
+    let mut line = [0u8; 8192];
     let read = read_state(buf, from);
     let set = text::number(buf, read.input);
     let transition = text::number(buf, set.input);

@@ -6,8 +6,8 @@ use sheet::within::masks_of;
 use sheet::words::wide;
 
 // The first masks into the line; the place after them.
-fn put_masks(line: &mut [u8; 4096], from: usize, masks: &[u32; 32], count: usize) -> usize
-    requires { ⌜ (from + 21 * 32 ≤ 4096) × (count ≤ 32) ⌝ }
+fn put_masks(line: &mut [u8; 8192], from: usize, masks: &[u32; 32], count: usize) -> usize
+    requires { ⌜ (from + 21 * 32 ≤ 8192) × (count ≤ 32) ⌝ }
     ensures { λ r. ⌜ r ≤ from + 21 * 32 ⌝ }
 {
     let mut at = from;
@@ -31,7 +31,7 @@ fn modes_of(sheet: &[u32]) -> usize
 
 // Case 13: the refusal of the current sheet; if there is none, a mask for each mode.
 pub fn masks(sheet: &[u32]) {
-    let mut line = [0u8; 4096];
+    let mut line = [0u8; 8192];
     let given = masks_of(sheet);
     let why = given.refusal;
     let masks = given.masks;

@@ -16,11 +16,14 @@ pub mod ReasonLaws
 pub mod AnyOrder
 pub mod StayTriggered
 pub mod ReadingLaws
+pub mod AgeLaws
 pub mod TickInWordsLaws
 pub mod RunLaws
 pub mod SheetTicksLaws
+pub mod AgeSince
 pub mod NumberLaws
 pub mod WhyLaws
+pub mod AgesApart
 pub mod WalkFuel
 pub mod WalkLaws
 pub mod TableLaws
@@ -37,6 +40,7 @@ pub mod WithinLaws
 pub mod TableFaithful
 pub mod TableSound
 pub mod CompiledLaws
+pub mod AgeSums
 pub mod IdleLaws
 pub mod NoIdleArrows
 pub mod MillisecondsLaws

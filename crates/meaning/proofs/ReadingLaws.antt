@@ -107,6 +107,30 @@ module _ (s : List ℕ) where
   unfolding Right
   right-fresh p e t r = absurd (subst T (ap (λ (x : ℕ). has x (source s t)) e ∙ has-none (source s t)) (running-e s (p .at) t r .on))
 
+  -- a timer t that runs after a tick: its reading, by whether its source was entered; if not, t ran before
+  module _ (sd : Sound s) (p : State) (i t : ℕ) where
+    abbrev after : TickSets
+    after = tickFrom s p i .sets
+
+    pub reading-next : T (has (running s (after .modes)) t) → (b : Bool) → has (after .entered) (source s t) ≡ b
+        → reading (stateAfter s p after .readings) t ≡ cond b (delay s t) (reading (p .readings) t - 1)
+    unfolding stateAfter nextState
+    reading-next r b g =
+        next-reading (running s (after .modes)) (after .entered) (source s) (delay s) (p .readings) t (lt-of-lt-of-le (running-e s (after .modes) t r .small) (t-le s sd))
+        ∙ ap (λ (c : Bool). cond c (cond (has (after .entered) (source s t)) (delay s t) (reading (p .readings) t - 1)) 0) (is-true (has (running s (after .modes)) t) r)
+        ∙ ap (λ (c : Bool). cond c (delay s t) (reading (p .readings) t - 1)) g
+
+    pub ran-before : T (has (running s (after .modes)) t) → has (after .entered) (source s t) ≡ false → T (has (running s (p .at)) t)
+    unfolding tickFrom
+    ran-before r g =
+        let on = running-e s (after .modes) t r in
+        running-i s (p .at) t
+        (record { small = on .small; timer = on .timer; on = went-on (stayed-or-entered s (dueTimers (running s (p .at)) (p .readings)) i (p .at) (source s t) (on .on)) })
+      where
+        went-on : T (has (p .at) (source s t)) ⊎ T (has (after .entered) (source s t)) → T (has (p .at) (source s t))
+        went-on (inl k) = k
+        went-on (inr k) = absurd (subst T g k)
+
   pub right-next : Sound s → (p : State) (i : ℕ) → Right p → tickFrom s p i .refusal ≡ 0 → Right (stateAfter s p (tickFrom s p i .sets))
   unfolding Right tickFrom stateAfter nextState
   right-next sd p i h e t r = go (has (z .entered) (source s t)) refl
@@ -126,32 +150,17 @@ module _ (s : List ℕ) where
       small : t < 64
       small = lt-of-lt-of-le (on .small) (t-le s sd)
 
-      value : (b : Bool) → has (z .entered) (source s t) ≡ b → reading (q .readings) t ≡ cond b (delay s t) (reading (p .readings) t - 1)
-      value b g =
-          (next-reading (running s (z .modes)) (z .entered) (source s) (delay s) (p .readings) t small
-          ∙ ap (λ (c : Bool). cond c (cond (has (z .entered) (source s t)) (delay s t) (reading (p .readings) t - 1)) 0) (is-true (has (running s (z .modes)) t) r)
-          ∙ ap (λ (c : Bool). cond c (delay s t) (reading (p .readings) t - 1)) g)
-
-      went-on : T (has (p .at) (source s t)) ⊎ T (has (z .entered) (source s t)) → has (z .entered) (source s t) ≡ false → T (has (p .at) (source s t))
-      went-on (inl k) g = k
-      went-on (inr k) g = absurd (subst T g k)
-
-      ran : has (z .entered) (source s t) ≡ false → T (has timers t)
-      ran g =
-          running-i s (p .at) t
-          (record { small = on .small; timer = on .timer; on = went-on (stayed-or-entered s (dueTimers timers (p .readings)) i (p .at) (source s t) (on .on)) g })
-
       left : has (z .entered) (source s t) ≡ false → eqb (reading (p .readings) t - 1) 0 ≡ false
       left g =
           is-false (eqb (reading (p .readings) t - 1) 0) (λ k.
           subst T (sym (due-at timers (p .readings) t small) ∙ not-due s sd (dueTimers timers (p .readings)) i (p .at) e t r g)
-          (and-i (has timers t) (eqb (reading (p .readings) t - 1) 0) (ran g) k))
+          (and-i (has timers t) (eqb (reading (p .readings) t - 1) 0) (ran-before sd p i t r g) k))
 
       go : (b : Bool) → has (z .entered) (source s t) ≡ b → (1 ≤ reading (q .readings) t) × (reading (q .readings) t ≤ delay s t)
-      go true g = let v : reading (q .readings) t ≡ delay s t = value true g in (omega (arith, delay-pos s t (on .timer)), omega arith)
+      go true g = let v : reading (q .readings) t ≡ delay s t = reading-next sd p i t r true g in (omega (arith, delay-pos s t (on .timer)), omega arith)
       go false g =
-          let v : reading (q .readings) t ≡ reading (p .readings) t - 1 = value false g in
-          let k = h t (ran g) in
+          let v : reading (q .readings) t ≡ reading (p .readings) t - 1 = reading-next sd p i t r false g in
+          let k = h t (ran-before sd p i t r g) in
           let n = eqb-false (reading (p .readings) t - 1) 0 (left g) in
           (omega arith, omega arith)
 

@@ -1,17 +1,18 @@
--- Laws of runs, over any step: how ticks end, a run split at any place, what done ticks keep, what is refused before any tick.
--- Assumes nothing.
+-- Laws of runs, over any step: how ticks end, a run split at any place, what done ticks keep, the tick of each set, what is refused
+-- before any tick. Assumes nothing.
 use mathlib.Core.Path.{_≡_, refl, sym, ap, ap₂, _∙_}
 use mathlib.Core.Bool.{Bool, true, false, not, cond}
 use mathlib.Core.List.{List, [], _∷_, _++_, append-assoc}
-use Prim.Native.Nat.{ℕ, suc, _+_, _*_, _≤_, zero-le}
-use native.Mathlib.Nat.{zero-add, add-assoc, mul-suc}
+use Prim.Native.Nat.{ℕ, zero, suc, _+_, _*_, _≤_, zero-le, _<_}
+use native.Mathlib.Nat.{zero-add, add-assoc, mul-suc, not-suc-le-zero, le-of-suc-le-suc}
 use native.Mathlib.Omega.{arith}
 use lib.Dec.{eqb, T}
-use lib.ListN.{length, length-append}
+use lib.ListN.{length, getD, take, length-append}
 use borrow.Author.Tests.{eqb-true, eqb-false, eq-eqb, ne-eqb}
 use Rattle.sets.proofs.Tests.{is-true, of-true}
 use Rattle.meaning.specs.Lists.{refusedIf, firstRefusal}
 use Rattle.meaning.specs.Run.{State, Step, Ticks, stops, tickThen, inputForeign, Run, ran, tickRefusal, ticks, run}
+use Rattle.meaning.proofs.ListLaws.{block-first, block-later}
 use Rattle.meaning.proofs.RefusalLaws.{first-met, first-passed, first-alone, none-met, unmet}
 
 -- the ticks a, none of them refused, then the ticks b
@@ -188,6 +189,51 @@ module _ (k : ℕ) (step : State → ℕ → Step) where
     words-five =
         ticks-all (λ _ _ x. length (x .words) ≡ 5 * x .done) (λ _. refl) (λ _ _ _ _. refl)
         (λ i is q e ih. length-append (step q i .words) (ticks k step is (step q i .state) .words) ∙ omega (arith, five q i))
+
+  -- ---- the tick of set n, counted from 0
+
+  -- the state before it
+  abbrev pub stateAt : List ℕ → State → ℕ → State
+  stateAt is q n = ticks k step (take n is) q .state
+
+  -- it leaves the state before the next, and its words stand at 5n
+  pub record NthTick (is : List ℕ) (q : State) (words : List ℕ) (n : ℕ) : Type 0 where
+    pub next : stateAt is q (suc n) ≡ step (stateAt is q n) (getD is n 0) .state
+    pub word : (j : ℕ) → j < 5 → getD words (5 * n + j) 0 ≡ getD (step (stateAt is q n) (getD is n 0) .words) j 0
+
+  module _ (five : (p : State) (i : ℕ) → length (step p i .words) ≡ 5) where
+    -- a done tick, and those after it with their words
+    module _ (i : ℕ) (is : List ℕ) (q : State) (e : tickRefusal k step q i ≡ 0) (words : List ℕ) where
+      state-more : (n : ℕ) → stateAt (i ∷ is) q (suc n) ≡ stateAt is (step q i .state) n
+      unfolding tickThen
+      state-more n = ap (λ (x : Ticks). x .state) (ticks-go i (take n is) q e)
+
+      first-tick : NthTick (i ∷ is) q (step q i .words ++ words) 0
+      unfolding ticks stops
+      first-tick = record { next = state-more 0; word = λ j l. block-first 5 (step q i .words) words j (five q i) l }
+
+      later-tick : (n : ℕ) → NthTick is (step q i .state) words n → NthTick (i ∷ is) q (step q i .words ++ words) (suc n)
+      later-tick n r =
+          let back = sym (state-more n) in
+          record {
+            next = state-more (suc n) ∙ r .next ∙ ap (λ (p : State). step p (getD is n 0) .state) back;
+            word = λ j l.
+                block-later 5 (step q i .words) words n j (five q i) ∙ r .word j l
+                ∙ ap (λ (p : State). getD (step p (getD is n 0) .words) j 0) back;
+          }
+
+    pub nth-tick : (is : List ℕ) (q : State) (n : ℕ) → n < ticks k step is q .done → NthTick is q (ticks k step is q .words) n
+    unfolding stops tickThen
+    nth-tick =
+        ticks-all (λ is q x. (n : ℕ) → n < x .done → NthTick is q (x .words) n) (λ _ _ l. absurd (not-suc-le-zero l))
+        (λ _ _ _ _ _ l. absurd (not-suc-le-zero l)) more
+      where
+        more : (i : ℕ) (is : List ℕ) (q : State) → tickRefusal k step q i ≡ 0
+            → let x = ticks k step is (step q i .state) in
+            ((n : ℕ) → n < x .done → NthTick is (step q i .state) (x .words) n)
+            → (n : ℕ) → n < suc (x .done) → NthTick (i ∷ is) q (step q i .words ++ x .words) n
+        more i is q e ih zero l = first-tick i is q e _
+        more i is q e ih (suc n) l = later-tick i is q e _ n (ih n (le-of-suc-le-suc l))
 
   -- ---- the whole run
 

@@ -19,16 +19,18 @@ use Rattle.meaning.specs.Sheet.{kOf}
 use Rattle.meaning.specs.Hierarchy.{consistent}
 use Rattle.meaning.specs.Reaction.{running}
 use Rattle.meaning.specs.Tick.{tick}
+use Rattle.meaning.specs.Ages.{agesOk}
 use Rattle.meaning.specs.Run.{State, reading, powerOn, isFresh, readingsOk, Ticks, stops, outputShort, Run, ran, ticks}
 use Rattle.meaning.specs.SheetRun.{sheetStep, sheetTicks}
 use Rattle.meaning.specs.Table.{kIn, bIn, delayIn, maskIn, timersIn, tableOk}
-use Rattle.meaning.specs.TableRun.{tableStep, tableStateOk, tableTicks, tableRun}
+use Rattle.meaning.specs.TableRun.{tableStep, tableTimersOk, tableStateOk, tableTicks, tableRun}
 use Rattle.meaning.specs.WholeList.{Call, legal, doneSets, refusalOf, runsFrom, doneWords, allDone}
 use Rattle.meaning.specs.Faithful.{faithful}
 use Rattle.meaning.proofs.RefusalLaws.{test-passed-i}
 use Rattle.meaning.proofs.SheetLaws.{Sound}
 use Rattle.meaning.proofs.TickLaws.{running-e, running-none}
-use Rattle.meaning.proofs.ReadingLaws.{Right, right-fresh, Zeros, zeros-fresh, zeros-next, readings-ok-i}
+use Rattle.meaning.proofs.ReadingLaws.{Right, right-fresh, readings-ok-i}
+use Rattle.meaning.proofs.AgeLaws.{Fits, fits-fresh, fits-next}
 use Rattle.meaning.proofs.RunLaws.{ticksThen, ticks-split, ticks-keep, done-all, words-five, run-short, run-goes}
 use Rattle.meaning.proofs.SheetTicksLaws.{five-long, Steady, steady-after, consistent-after}
 use Rattle.meaning.proofs.LayoutLaws.{b-pos, mask-first}
@@ -58,6 +60,7 @@ module _ (s w : List ℕ) (q p : State) (cs : List Call) where
     pub readings : 0 < runFrom j .done → runFrom j .state .readings ≡ sheetBy j .readings
     pub block : 0 < runFrom j .done → runFrom j .state .at < bIn w
     pub mask : 0 < runFrom j .done → maskIn w (runFrom j .state .at) ≡ sheetBy j .at
+    pub ages : 0 < runFrom j .done → runFrom j .state .ages ≡ sheetBy j .ages
 
   pub record ServedFrom : Type 0 where
     pub unrefused : sheetTicks s (allDone s cs) p .refusal ≡ 0
@@ -68,7 +71,7 @@ module _ (s w : List ℕ) (q p : State) (cs : List Call) where
 module _ (s : List ℕ) (sd : Sound s) (w : List ℕ) (ok : T (tableOk w)) (f : T (faithful s w)) where
   -- ---- a state that stands for one of the sheet's is not refused
 
-  module _ (q p : State) (st : Stands s sd w ok f q p) (right : Right s p) (zeros : Zeros s p) where
+  module _ (q p : State) (st : Stands s sd w ok f q p) (right : Right s p) (fits : Fits s p) where
     same : (u : ℕ) → reading (q .readings) u ≡ reading (p .readings) u
     same u = ap (λ (l : List ℕ). reading l u) (st .readings)
 
@@ -85,11 +88,11 @@ module _ (s : List ℕ) (sd : Sound s) (w : List ℕ) (ok : T (tableOk w)) (f : 
         let b = right u r in
         let d = delay-same s w f sd u (k .small) (k .timer) in
         (omega (arith, same u), omega (arith, same u)))
-        (λ u l e. same u ∙ zeros u l (sym (runs-same u) ∙ e))
+        (λ u l e. same u ∙ fits .zeros u l (sym (runs-same u) ∙ e))
 
-    pub state-ok : T (tableStateOk w q)
-    unfolding tableStateOk isFresh
-    state-ok = go (eqb (q .at) 0) refl
+    timers-ok : T (tableTimersOk w q)
+    unfolding tableTimersOk isFresh
+    timers-ok = go (eqb (q .at) 0) refl
       where
         fresh : Bool
         fresh = every 64 (λ u. eqb (reading (q .readings) u) 0)
@@ -99,11 +102,17 @@ module _ (s : List ℕ) (sd : Sound s) (w : List ℕ) (ok : T (tableOk w)) (f : 
             let z : p .at ≡ 0 = sym (st .same) ∙ ap (maskIn w) (eqb-true (q .at) 0 e) ∙ mask-first w ok in
             or-l fresh (ltb 0 (q .at) && ltb (q .at) (bIn w) && readingsOk (timersIn w (q .at)) (delayIn w) (q .readings))
             (every-i 64 (λ u. eqb (reading (q .readings) u) 0) (λ u l.
-            of-true (eq-eqb (reading (q .readings) u) 0 (same u ∙ zeros u l (ap (λ (x : ℕ). has x u) (ap (running s) z ∙ running-none s) ∙ has-none u)))))
+            of-true (eq-eqb (reading (q .readings) u) 0 (same u ∙ fits .zeros u l (ap (λ (x : ℕ). has x u) (ap (running s) z ∙ running-none s) ∙ has-none u)))))
         go false e =
             let n = eqb-false (q .at) 0 e in
             and-i (ltb 0 (q .at) && ltb (q .at) (bIn w)) (readingsOk (timersIn w (q .at)) (delayIn w) (q .readings))
             (and-i (ltb 0 (q .at)) (ltb (q .at) (bIn w)) (lt→ltb 0 (q .at) (omega arith)) (lt→ltb (q .at) (bIn w) (st .low))) readings-ok
+
+    pub state-ok : T (tableStateOk w q)
+    unfolding tableStateOk
+    state-ok =
+        and-i (tableTimersOk w q) (agesOk (maskIn w (q .at)) (q .ages)) timers-ok
+        (subst T (ap₂ agesOk (sym (st .same)) (sym (st .ages))) (fits .ages))
 
   -- ---- one call
 
@@ -118,7 +127,7 @@ module _ (s : List ℕ) (sd : Sound s) (w : List ℕ) (ok : T (tableOk w)) (f : 
     still : length ds ≡ 0 → R .state ≡ q
 
   -- a call is refused neither 15 nor 14, so it is refused 12 or the ticks agree
-  call-right : (q p : State) (c : Call) → Stands s sd w ok f q p → Right s p → Zeros s p
+  call-right : (q p : State) (c : Call) → Stands s sd w ok f q p → Right s p → Fits s p
       → CallRight q c (doneSets (kOf s) c) (tableRun w q (c .inputs) (c .out)) (sheetTicks s (doneSets (kOf s) c) p)
   unfolding doneSets refusalOf tableRun ran doneWords overwritten
   call-right q p c st r zs = go (outputShort is (c .out)) refl
@@ -197,6 +206,7 @@ module _ (s : List ℕ) (sd : Sound s) (w : List ℕ) (ok : T (tableOk w)) (f : 
           readings = λ l. r .readings l ∙ ap (λ (x : Ticks). x .state .readings) (sym two);
           block = r .block;
           mask = λ l. r .mask l ∙ ap (λ (x : Ticks). x .state .at) (sym two);
+          ages = λ l. r .ages l ∙ ap (λ (x : Ticks). x .state .ages) (sym two);
         }
       where
         before : (k : ℕ) → stateFrom s w (R .state) (S .state) cs k ≡ stateFrom s w q p (c ∷ cs) (suc k)
@@ -218,11 +228,12 @@ module _ (s : List ℕ) (sd : Sound s) (w : List ℕ) (ok : T (tableOk w)) (f : 
           readings = λ l. h .stands .readings ∙ ap (λ (x : List ℕ). sheetTicks s x p .state .readings) one;
           block = λ l. h .stands .low;
           mask = λ l. h .stands .same ∙ ap (λ (x : List ℕ). sheetTicks s x p .state .at) one;
+          ages = λ l. h .stands .ages ∙ ap (λ (x : List ℕ). sheetTicks s x p .state .ages) one;
         }
 
   module _ (keeps : (y d i : ℕ) → (y ≡ 0) ⊎ T (consistent s y) → T (consistent s (tick s y d i .sets .modes))) where
     -- from states that stand for each other, every list of calls is served
-    served : (cs : List Call) (q p : State) → Stands s sd w ok f q p → Right s p → Zeros s p → Steady s p → ServedFrom s w q p cs
+    served : (cs : List Call) (q p : State) → Stands s sd w ok f q p → Right s p → Fits s p → Steady s p → ServedFrom s w q p cs
     unfolding allDone flatten runsFrom
     served [] q p st r zs sy =
         unfold ticks stops in
@@ -230,7 +241,7 @@ module _ (s : List ℕ) (sd : Sound s) (w : List ℕ) (ok : T (tableOk w)) (f : 
     served (c ∷ cs) q p st r zs sy = go (call-right q p c st r zs) (served cs (R q p c cs .state) (S q p c cs .state))
       where
         go : CallRight q c (ds q p c cs) (R q p c cs) (S q p c cs)
-            → (Stands s sd w ok f (R q p c cs .state) (S q p c cs .state) → Right s (S q p c cs .state) → Zeros s (S q p c cs .state)
+            → (Stands s sd w ok f (R q p c cs .state) (S q p c cs .state) → Right s (S q p c cs .state) → Fits s (S q p c cs .state)
             → Steady s (S q p c cs .state) → ServedFrom s w (R q p c cs .state) (S q p c cs .state) cs)
             → ServedFrom s w q p (c ∷ cs)
         go h ih =
@@ -245,7 +256,7 @@ module _ (s : List ℕ) (sd : Sound s) (w : List ℕ) (ok : T (tableOk w)) (f : 
             rest : ServedFrom s w (R q p c cs .state) (S q p c cs .state) cs
             rest =
                 ih (h .stands) (h .right)
-                (ticks-keep (kOf s) (sheetStep s) (Zeros s) (λ x i _ _. unfold sheetStep in (zeros-next s x _)) (ds q p c cs) p zs)
+                (ticks-keep (kOf s) (sheetStep s) (Fits s) (λ x i _ _. unfold sheetStep in (fits-next s x _)) (ds q p c cs) p zs)
                 (steady-after s keeps (ds q p c cs) p sy)
 
             two : sheetTicks s (ds q p c cs ++ D cs) p ≡ ticksThen (S q p c cs) (sheetTicks s (D cs) (S q p c cs .state))
@@ -262,7 +273,7 @@ module _ (s : List ℕ) (sd : Sound s) (w : List ℕ) (ok : T (tableOk w)) (f : 
 pub served-from-power-on : (s : List ℕ) → Sound s → ((y d i : ℕ) → (y ≡ 0) ⊎ T (consistent s y) → T (consistent s (tick s y d i .sets .modes)))
     → (w : List ℕ) → T (tableOk w) → T (faithful s w) → (cs : List Call) → ServedFrom s w powerOn powerOn cs
 served-from-power-on s sd keeps w ok f cs =
-    served s sd w ok f keeps cs powerOn powerOn stands (right-fresh s powerOn (unfold powerOn in refl)) (zeros-fresh s) (unfold powerOn in (inl refl))
+    served s sd w ok f keeps cs powerOn powerOn stands (right-fresh s powerOn (unfold powerOn in refl)) (fits-fresh s) (unfold powerOn in (inl refl))
   where
     stands : Stands s sd w ok f powerOn powerOn
-    stands = unfold powerOn in (record { low = b-pos w ok; same = mask-first w ok; readings = refl })
+    stands = unfold powerOn in (record { low = b-pos w ok; same = mask-first w ok; readings = refl; ages = refl })

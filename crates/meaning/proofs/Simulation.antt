@@ -16,6 +16,7 @@ use Rattle.meaning.specs.Lists.{rowFrom, refusedIf}
 use Rattle.meaning.specs.Sheet.{kOf, source}
 use Rattle.meaning.specs.Reaction.{TickSets, delay, running}
 use Rattle.meaning.specs.Tick.{Tick, tick, fiveWords}
+use Rattle.meaning.specs.Ages.{nextAges}
 use Rattle.meaning.specs.Run.{State, reading, dueTimers, nextReadings, nextState, Step, Ticks, stops, tickThen, inputForeign, tickRefusal, ticks}
 use Rattle.meaning.specs.SheetRun.{tickFrom, stateAfter, sheetStep, sheetTicks}
 use Rattle.meaning.specs.Table.{kIn, bIn, sourceIn, delayIn, maskIn, timersIn, cellsIn, cellWord, tableOk}
@@ -37,6 +38,7 @@ module _ (s : List ℕ) (sd : Sound s) (w : List ℕ) (ok : T (tableOk w)) (f : 
     pub low : q .at < bIn w
     pub same : maskIn w (q .at) ≡ p .at
     pub readings : q .readings ≡ p .readings
+    pub ages : q .ages ≡ p .ages
 
   -- ---- one tick
 
@@ -116,9 +118,13 @@ module _ (s : List ℕ) (sd : Sound s) (w : List ℕ) (ok : T (tableOk w)) (f : 
           ∙ next-readings-ext (running s (z .modes)) (z .entered) (sourceIn w) (source s) (delayIn w) (delay s) (p .readings)
           (λ u h. let r = running-e s (z .modes) u h in (source-same s w f sd u (r .small) (r .timer), delay-same s w f sd u (r .small) (r .timer)))
 
+      next-ages : nextAges (maskIn w next) (cellWord w (q .at) c 1) (q .ages) ≡ nextAges (z .modes) (z .entered) (p .ages)
+      next-ages =
+          ap₂ (λ (x y : ℕ). nextAges x y (q .ages)) next-same entered-same ∙ ap (nextAges (z .modes) (z .entered)) (st .ages)
+
       pub stands-next : Stands (tableStep w q i .state) (sheetStep s p i .state)
       unfolding tableStep sheetStep stateAfterCell stateAfter nextState
-      stands-next = record { low = next-low; same = next-same; readings = next-readings }
+      stands-next = record { low = next-low; same = next-same; readings = next-readings; ages = next-ages }
 
       -- no timer of the next block is without a reading
       not-stale : Right s p → isStale w (stateAfterCell w q c) ≡ false

@@ -12,15 +12,16 @@ use Rattle.sets.specs.Sets.{has, every}
 use Rattle.sets.proofs.Tests.{of-true, and-l, and-r, and-i, or-e, or-r}
 use Rattle.sets.proofs.Facts.{every-e}
 use Rattle.meaning.specs.Lists.{refusedIf}
-use Rattle.meaning.specs.Sheet.{kOf, tOf}
+use Rattle.meaning.specs.Sheet.{kOf, tOf, source}
 use Rattle.meaning.specs.Check.{sheetRefusal}
 use Rattle.meaning.specs.Hierarchy.{consistent}
 use Rattle.meaning.specs.Reaction.{running, delay}
 use Rattle.meaning.specs.Tick.{begin, tick}
+use Rattle.meaning.specs.Ages.{agesOk, sumsOk}
 use Rattle.meaning.specs.Run.{State, reading, isFresh, readingsOk, inputForeign, Run, ran, run, nextState, outputShort, dueTimers}
-use Rattle.meaning.specs.SheetRun.{stateOk, tickFrom, stateAfter, sheetStep, withNumbers, sheetRun}
+use Rattle.meaning.specs.SheetRun.{timersOk, stateOk, tickFrom, stateAfter, sheetStep, withNumbers, sheetRun}
 use Rattle.meaning.specs.Table.{kIn, bIn, delayIn, maskIn, timersIn, tableOk}
-use Rattle.meaning.specs.TableRun.{tableStateOk, cellOf, stateAfterCell, isStale, tableStep, tableRun}
+use Rattle.meaning.specs.TableRun.{tableTimersOk, tableStateOk, cellOf, stateAfterCell, isStale, tableStep, tableRun}
 use Rattle.meaning.specs.WholeList.{legal}
 use Rattle.meaning.specs.Faithful.{faithful}
 use Rattle.meaning.specs.HighestLevelFirst.{NoReadingZero}
@@ -31,6 +32,7 @@ use Rattle.meaning.proofs.SheetLaws.{Sound, sound, t-le}
 use Rattle.meaning.proofs.TickLaws.{running-e, rounds-refusal}
 use Rattle.meaning.proofs.Consistency.{keeps-consistent}
 use Rattle.meaning.proofs.ReadingLaws.{readings-ok-running, readings-ok-zero, Right, right-fresh, right-next, Zeros, readings-sound, zeros-next}
+use Rattle.meaning.proofs.AgeLaws.{Summed, summed-e, summed-i, summed-next, fits-next}
 use Rattle.meaning.proofs.RunLaws.{tick-known, tick-done, refusal-state, refusal-short, run-goes, run-leaves, run-admitted}
 use Rattle.meaning.proofs.SheetTicksLaws.{Steady}
 use Rattle.meaning.proofs.LayoutLaws.{b-pos, mask-first}
@@ -59,8 +61,8 @@ record Good (s : List ℕ) (q : State) : Type 0 where
   zeros : Zeros s q
 
 module _ (s : List ℕ) (sd : Sound s) where
-  good-e : (q : State) → T (stateOk s q) → Good s q
-  unfolding stateOk
+  good-e : (q : State) → T (timersOk s q) → Good s q
+  unfolding timersOk
   good-e q h = ⊎-elim fresh other (or-e (isFresh q) (consistent s (q .at) && readingsOk (running s (q .at)) (delay s) (q .readings)) h)
     where
       fresh : T (isFresh q) → Good s q
@@ -77,9 +79,28 @@ module _ (s : List ℕ) (sd : Sound s) where
             zeros = readings-ok-zero (running s (q .at)) (delay s) (q .readings) r;
           }
 
-  stays : (q : State) (i : ℕ) → T (stateOk s q) → sheetStep s q i .refusal ≡ 0 → T (stateOk s (sheetStep s q i .state))
-  unfolding sheetStep stateOk
-  stays q i h e =
+  -- the three tests of a state that 14 admits
+  record Admitted (q : State) : Type 0 where
+    timers : T (timersOk s q)
+    ages : T (agesOk (q .at) (q .ages))
+    summed : Summed s q
+
+  admitted-e : (q : State) → T (stateOk s q) → Admitted q
+  unfolding stateOk
+  admitted-e q h =
+      let a = timersOk s q in
+      let b = agesOk (q .at) (q .ages) in
+      let c = sumsOk (running s (q .at)) (source s) (delay s) (reading (q .readings)) (q .ages) in
+      let k = and-l (a && b) c h in
+      record { timers = and-l a b k; ages = and-r a b k; summed = summed-e s sd q (and-r (a && b) c h) }
+
+  admitted-i : (q : State) → Admitted q → T (stateOk s q)
+  unfolding stateOk
+  admitted-i q h = and-i (timersOk s q && agesOk (q .at) (q .ages)) _ (and-i (timersOk s q) _ (h .timers) (h .ages)) (summed-i s q (h .summed))
+
+  timers-stay : (q : State) (i : ℕ) → T (timersOk s q) → sheetStep s q i .refusal ≡ 0 → T (timersOk s (sheetStep s q i .state))
+  unfolding sheetStep timersOk
+  timers-stay q i h e =
       let g = good-e q h in
       let o = stateAfter s q (tickFrom s q i .sets) in
       or-r (isFresh o) (consistent s (o .at) && readingsOk (running s (o .at)) (delay s) (o .readings))
@@ -87,20 +108,30 @@ module _ (s : List ℕ) (sd : Sound s) where
       (unfold stateAfter nextState tickFrom in (keeps-consistent s sd (q .at) _ i (g .steady)))
       (readings-sound s sd o (right-next s sd q i (g .right) e) (zeros-next s q (tickFrom s q i .sets))))
 
+  stays : (q : State) (i : ℕ) → T (stateOk s q) → sheetStep s q i .refusal ≡ 0 → T (stateOk s (sheetStep s q i .state))
+  stays q i h e =
+      let a = admitted-e q h in
+      admitted-i (sheetStep s q i .state)
+      (record {
+        timers = timers-stay q i (a .timers) e;
+        ages = unfold sheetStep in (fits-next s q (tickFrom s q i .sets) .ages);
+        summed = unfold sheetStep in (summed-next s sd q i (good-e q (a .timers) .right) (a .summed));
+      })
+
 pub sheet-state-stays : SheetStateStays
 unfolding SheetStateStays
 sheet-state-stays s h q i ok e = stays s (sound s h) q i ok e
 
 pub no-reading-zero : NoReadingZero
 unfolding NoReadingZero Right
-no-reading-zero s h q i ok e t on = good-e s (sound s h) (sheetStep s q i .state) (stays s (sound s h) q i ok e) .right t on .0
+no-reading-zero s h q i ok e t on = good-e s (sound s h) (sheetStep s q i .state) (timers-stay s (sound s h) q i (admitted-e s (sound s h) q ok .timers) e) .right t on .0
 
 -- ---- a faithful table's states
 
 module _ (s : List ℕ) (sd : Sound s) (w : List ℕ) (ok : T (tableOk w)) (f : T (faithful s w)) where
   -- the sheet's state that q stands for
   abbrev meant : State → State
-  meant q = record { at = maskIn w (q .at); readings = q .readings }
+  meant q = record { at = maskIn w (q .at); readings = q .readings; ages = q .ages }
 
   record StandsGood (q : State) : Type 0 where
     stands : Stands s sd w ok f q (meant q)
@@ -108,13 +139,16 @@ module _ (s : List ℕ) (sd : Sound s) (w : List ℕ) (ok : T (tableOk w)) (f : 
     zeros : Zeros s (meant q)
 
   stands-good : (q : State) → T (tableStateOk w q) → StandsGood q
-  unfolding tableStateOk
-  stands-good q h = ⊎-elim fresh other (or-e (isFresh q) (ltb 0 (q .at) && ltb (q .at) (bIn w) && readingsOk (timersIn w (q .at)) (delayIn w) (q .readings)) h)
+  unfolding tableStateOk tableTimersOk
+  stands-good q h =
+      ⊎-elim fresh other
+      (or-e (isFresh q) (ltb 0 (q .at) && ltb (q .at) (bIn w) && readingsOk (timersIn w (q .at)) (delayIn w) (q .readings))
+      (and-l (tableTimersOk w q) (agesOk (maskIn w (q .at)) (q .ages)) h))
     where
       fresh : T (isFresh q) → StandsGood q
       fresh k =
           record {
-            stands = record { low = subst (λ (b : ℕ). b < bIn w) (sym (fresh-at q k)) (b-pos w ok); same = refl; readings = refl };
+            stands = record { low = subst (λ (b : ℕ). b < bIn w) (sym (fresh-at q k)) (b-pos w ok); same = refl; readings = refl; ages = refl };
             right = right-fresh s (meant q) (ap (maskIn w) (fresh-at q k) ∙ mask-first w ok);
             zeros = λ u l _. fresh-zero q k u l;
           }
@@ -134,7 +168,7 @@ module _ (s : List ℕ) (sd : Sound s) (w : List ℕ) (ok : T (tableOk w)) (f : 
           r = and-r (ltb 0 (q .at) && ltb (q .at) (bIn w)) (readingsOk (timersIn w (q .at)) (delayIn w) (q .readings)) k
 
           st : Stands s sd w ok f q (meant q)
-          st = record { low = ltb→lt (q .at) (bIn w) (and-r (ltb 0 (q .at)) (ltb (q .at) (bIn w)) place); same = refl; readings = refl }
+          st = record { low = ltb→lt (q .at) (bIn w) (and-r (ltb 0 (q .at)) (ltb (q .at) (bIn w)) place); same = refl; readings = refl; ages = refl }
 
           same : timersIn w (q .at) ≡ running s (maskIn w (q .at))
           same = timers-stand s sd w ok f q (meant q) st
@@ -153,7 +187,7 @@ module _ (s : List ℕ) (sd : Sound s) (w : List ℕ) (ok : T (tableOk w)) (f : 
       let known′ = subst (λ (k : ℕ). inputForeign k i ≡ false) (k-same s w f) known in (
         sym (tick-known (kIn w) (tableStep w) q i known) ∙ table-good s sd w ok f q (meant q) (g .stands) i known′ (g .right),
         state-ok s sd w ok f (tableStep w q i .state) (sheetStep s (meant q) i .state) (stands-next s sd w ok f q (meant q) (g .stands) i known′)
-            (right-step s sd w ok f q (meant q) (g .stands) i known′ (g .right)) (unfold sheetStep in (zeros-next s (meant q) _)),
+            (right-step s sd w ok f q (meant q) (g .stands) i known′ (g .right)) (unfold sheetStep in (fits-next s (meant q) _)),
       )
 
 pub table-state-stays : TableStateStays

@@ -25,6 +25,10 @@ use Rattle.meaning.proofs.AlternativeLaws.{fired-taken, fired-range}
 use Rattle.meaning.proofs.NumberLaws.{numbers-taken}
 use Rattle.meaning.proofs.ReasonLaws.{reason-holds, reason-only}
 use Rattle.meaning.proofs.WhyLaws.{same-refusal, same-tick}
+use Rattle.meaning.proofs.AgeLaws.{age-stays}
+use Rattle.meaning.proofs.AgeSince.{age-since}
+use Rattle.meaning.proofs.AgeSums.{sums-in-sheet, sums-in-accepted, sums-in-compiled}
+use Rattle.meaning.proofs.AgesApart.{ages-apart-in-sheet, ages-apart-in-table, ages-apart-in-why}
 use Rattle.meaning.proofs.SheetLaws.{sound}
 use Rattle.meaning.proofs.CompiledLaws.{compiled-accepted-from}
 
@@ -90,4 +94,12 @@ promised =
       reasonOnly = reason-only;
       sameRefusal = same-refusal;
       sameTick = same-tick;
+      ageSince = age-since;
+      ageStays = age-stays;
+      sumsInSheet = sums-in-sheet;
+      sumsInAccepted = sums-in-accepted;
+      sumsInCompiled = sums-in-compiled;
+      agesApartInSheet = ages-apart-in-sheet;
+      agesApartInTable = ages-apart-in-table;
+      agesApartInWhy = ages-apart-in-why;
     }

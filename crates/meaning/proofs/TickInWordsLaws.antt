@@ -16,6 +16,7 @@ use Rattle.meaning.specs.Sheet.{tOf, source}
 use Rattle.meaning.specs.Hierarchy.{complete}
 use Rattle.meaning.specs.Reaction.{TickSets, isDelay, delay, isTimer, running, alternative, isDue, trigger, triggered, eligible, ambiguous, restless, exiting, entering, afterRound}
 use Rattle.meaning.specs.Tick.{Tick, begin, chosen, roundsFrom, tick}
+use Rattle.meaning.specs.Ages.{nextAges}
 use Rattle.meaning.specs.Run.{State, reading, dueTimers, nextReadings, nextState}
 use Rattle.meaning.specs.SheetRun.{tickFrom, stateAfter}
 use Rattle.meaning.specs.TickInWords.{Timed, timed, triggerAt, chosenAt, restarted, timedFrom, startReadings, timedTick, timedState}
@@ -201,7 +202,7 @@ module _ (s : List ℕ) (sd : Sound s) (q : State) (i : ℕ) where
   state-same : timedState s q i ≡ stateAfter s q (tickFrom s q i .sets)
   unfolding timedState stateAfter nextState nextReadings Inv
   state-same =
-      ap₂ (λ (m : ℕ) (l : List ℕ). record { at = m; readings = l }) (ap (λ (o : Tick). o .sets .modes) (both .0))
+      ap₂ (λ (o : Tick) (l : List ℕ). record { at = o .sets .modes; readings = l; ages = nextAges (o .sets .modes) (o .sets .entered) (q .ages) }) (both .0)
       (rowFrom-ext (λ t. cond (has (running s (z .modes)) t) (getD (timedTick s q i .readings) t 0) 0) (row z) 0 64
       (λ t a b. cond-ext (has (running s (z .modes)) t) (getD (timedTick s q i .readings) t 0) (cond (has (z .entered) (source s t)) (delay s t) (low t)) 0
       (λ h. both .1 t (running-e s (z .modes) t h) .value))

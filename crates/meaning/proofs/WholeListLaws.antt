@@ -126,6 +126,7 @@ module _ (s w : List ℕ) (cs : List Call) (h : ServedFrom s w powerOn powerOn c
         done = r .done;
         none = λ z. r .none z ∙ before-is j;
         readings = λ l. r .readings l ∙ ap (λ (p : State). p .readings) (by-is j);
+        ages = λ l. r .ages l ∙ ap (λ (p : State). p .ages) (by-is j);
         block = r .block;
         mask = λ l. r .mask l ∙ ap (λ (p : State). p .at) (by-is j);
       }

@@ -8,6 +8,7 @@ use lib.ListN.{replicate, set}
 use Rattle.sets.specs.Sets.{single}
 use Rattle.meaning.specs.Lists.{rowFrom}
 use Rattle.meaning.specs.Tick.{tick}
+use Rattle.meaning.specs.Ages.{noAges}
 use Rattle.meaning.specs.Run.{State, powerOn}
 use Rattle.meaning.specs.SheetRun.{sheetRun}
 use Rattle.meaning.specs.Why.{refused, neverActive, neverTriggered, gaveWayTo, takenIn, why}
@@ -166,9 +167,26 @@ first-numbers s i = sheetRun s powerOn (i ∷ []) (lent 5) (lent 64) .numbers
 abbrev two-numbers : ℕ → ℕ → List ℕ
 two-numbers a b = a ∷ b ∷ replicate 62 0
 
--- a state with mode set x and reading r of transition 1, all others 0
-abbrev reading-1 : ℕ → ℕ → State
-reading-1 x r = record { at = x; readings = 0 ∷ r ∷ replicate 62 0 }
+-- the ages of modes 0 to 2, all others 0
+abbrev three-ages : ℕ → ℕ → ℕ → List ℕ
+three-ages a b c = a ∷ b ∷ c ∷ replicate 29 0
+
+-- a state with mode set x, reading r of transition 1, all others 0, and ages
+abbrev reading-1 : ℕ → ℕ → List ℕ → State
+reading-1 x r ages = record { at = x; readings = 0 ∷ r ∷ replicate 62 0; ages = ages }
+
+-- the state after one tick of the sheet
+abbrev sheet-after : State → ℕ → State
+sheet-after q i = sheetRun sheet q (i ∷ []) (lent 5) (lent 64) .run .state
+
+-- the refusals of a state whose readings are all 0: of the sheet with the mode set x, of the table with the block b
+abbrev age-refusals : ℕ → ℕ → List ℕ → List ℕ
+age-refusals x b ages = sheetRun sheet (reading-1 x 0 ages) [] [] [] .run .refusal ∷ tableRun table (reading-1 b 0 ages) [] [] .refusal ∷ []
+
+-- 1→2 and 1→3, both after 2 ticks, mode 1 of some age and the readings 1 and 2
+abbrev twins-refusal : ℕ → ℕ
+twins-refusal a =
+    sheetRun (fork (after 2) (after 2)) (record { at = 3; readings = 1 ∷ 2 ∷ replicate 62 0; ages = three-ages 0 a 0 }) [] [] [] .run .refusal
 
 -- 1→2 on event 0, 2→3 once that is taken, and 2→1 on event 1: mode 2 is entered and left again
 abbrev passing : List ℕ
@@ -235,9 +253,9 @@ pub record Examples : Type 0 where
   pub short-work : compile sheet (lent 69) (lent 1) ≡ record { refusal = 11; f = 1; tableLength = 0; work = 3 ∷ []; table = lent 69 }
   -- "these five ticks", by sheet run and by table run, in output words with two to spare
   pub sheet-run : sheetRun sheet powerOn inputs (lent 27) (lent 320) .run
-      ≡ record { done = 5; state = record { at = 5; readings = 0 ∷ 2 ∷ replicate 62 0 }; refusal = 0; rounds = 3; out = five-ticks ++ lent 2 }
+      ≡ record { done = 5; state = reading-1 5 2 (three-ages 4 0 0); refusal = 0; rounds = 3; out = five-ticks ++ lent 2 }
   pub table-run : tableRun table powerOn inputs (lent 27)
-      ≡ record { done = 5; state = record { at = 2; readings = 0 ∷ 2 ∷ replicate 62 0 }; refusal = 0; rounds = 0; out = five-ticks ++ lent 2 }
+      ≡ record { done = 5; state = reading-1 2 2 (three-ages 4 0 0); refusal = 0; rounds = 0; out = five-ticks ++ lent 2 }
   -- "input 1 at tick 3 gives 6 6 7 3 0"
   pub input-at-3 : tableRun table powerOn (0 ∷ 1 ∷ 0 ∷ 1 ∷ []) (lent 20) .out
       ≡ 3 ∷ 0 ∷ 3 ∷ 0 ∷ 0 ∷ 4 ∷ 2 ∷ 7 ∷ 1 ∷ 0 ∷ 0 ∷ 0 ∷ 5 ∷ 0 ∷ 0 ∷ 6 ∷ 6 ∷ 7 ∷ 3 ∷ 0 ∷ []
@@ -263,11 +281,11 @@ pub record Examples : Type 0 where
   pub by-event : why sheet powerOn 1 0 ≡ takenIn 1 1
   pub entered-last : why sheet powerOn 1 1 ≡ neverTriggered
   -- a due timer, and then 1→2 in the second round
-  pub by-delay : why sheet (reading-1 5 1) 1 1 ≡ takenIn 1 9
-  pub second-round : why sheet (reading-1 5 1) 1 0 ≡ takenIn 2 1
+  pub by-delay : why sheet (reading-1 5 1 (three-ages 0 0 1)) 1 1 ≡ takenIn 1 9
+  pub second-round : why sheet (reading-1 5 1 (three-ages 0 0 1)) 1 0 ≡ takenIn 2 1
   -- "16, after 14 and before 13"
-  pub why-no-words : why [] (reading-1 9 0) 2 2 ≡ refused 1
-  pub why-state : why sheet (reading-1 9 0) 2 2 ≡ refused 14
+  pub why-no-words : why [] (reading-1 9 0 noAges) 2 2 ≡ refused 1
+  pub why-state : why sheet (reading-1 9 0 noAges) 2 2 ≡ refused 14
   pub why-transition : why sheet powerOn 2 2 ≡ refused 16
   pub why-input : why sheet powerOn 2 1 ≡ refused 13
   -- "A refused tick reports its refusal only": of one taken in its first round, and of one whose source is never active
@@ -281,10 +299,32 @@ pub record Examples : Type 0 where
   pub taken-highest : why three-levels powerOn 7 2 ≡ takenIn 1 1
   -- "If it both gave way and was taken, taken is reported.": first the one, or first the other
   pub gave-way-before : why gives-way-first powerOn 1 0 ≡ takenIn 3 1
-  pub gave-way-to-timer : why timer-first (reading-1 7 1) 1 0 ≡ takenIn 3 1
+  pub gave-way-to-timer : why timer-first (reading-1 7 1 noAges) 1 0 ≡ takenIn 3 1
   pub gave-way-after : why outer-first powerOn 1 0 ≡ takenIn 1 1
   -- "in the first such round"
   pub gave-way-twice : why gives-way-twice powerOn 1 0 ≡ gaveWayTo 2
+  -- Ask 10: "reading plus age of its source is its delay" of a sheet's state, in a report too, not of a table's; the modes that the tick
+  -- enters and leaves are 0 old
+  pub sum-broken : sheetRun sheet (reading-1 5 1 noAges) [] [] [] .run .refusal ≡ 14
+  pub sum-broken-why : why sheet (reading-1 5 1 noAges) 1 1 ≡ refused 14
+  pub sum-kept : sheetRun sheet (reading-1 5 1 (three-ages 0 0 1)) (0 ∷ []) (lent 5) (lent 64) .run
+      ≡ record { done = 1; state = reading-1 3 0 (three-ages 1 0 0); refusal = 0; rounds = 1; out = 2 ∷ 4 ∷ 7 ∷ 2 ∷ 0 ∷ [] }
+  pub sum-of-table : tableRun table (reading-1 2 1 noAges) (0 ∷ []) (lent 5)
+      ≡ record { done = 1; state = reading-1 1 0 (three-ages 1 0 0); refusal = 0; rounds = 0; out = 2 ∷ 4 ∷ 7 ∷ 2 ∷ 0 ∷ [] }
+  -- two timers of one source whose readings are apart, with any age
+  pub twins-apart : rowFrom 0 4 twins-refusal ≡ replicate 4 14
+  -- a mode that is left and entered again in one tick; a child older than its parent; "stopping at 65,535"
+  pub entered-again : sheet-after (reading-1 5 1 (three-ages 0 0 1)) 1 ≡ reading-1 5 2 (three-ages 1 0 0)
+  pub older-child : sheet-after (reading-1 3 0 (three-ages 0 9 0)) 0 ≡ reading-1 3 0 (three-ages 1 10 0)
+  pub age-stops : sheet-after (reading-1 3 0 (three-ages 65535 65534 0)) 0 ≡ reading-1 3 0 (three-ages 65535 65535 0)
+  -- "a mode ages by one unless its cell enters it or the next block lacks it": also one that the block before lacked
+  pub not-entered : tableRun (set table 16 1) powerOn (0 ∷ []) (lent 5) .state ≡ reading-1 1 0 (three-ages 0 1 0)
+  -- "an age above 65,535, or a nonzero one of an inactive mode or in the fresh state": of mode 0, of mode 2, of mode 3, which is none
+  pub age-above : age-refusals 3 1 (three-ages 65536 0 0) ≡ 14 ∷ 14 ∷ []
+  pub age-inactive : age-refusals 3 1 (three-ages 0 0 1) ≡ 14 ∷ 14 ∷ []
+  pub age-of-none : age-refusals 3 1 (set noAges 3 1) ≡ 14 ∷ 14 ∷ []
+  pub age-fresh : age-refusals 0 0 (three-ages 1 0 0) ≡ 14 ∷ 14 ∷ []
+  pub age-highest : age-refusals 3 1 (three-ages 65535 0 0) ≡ 0 ∷ 0 ∷ []
   -- Ask 4: our own table, "Blocks may be in another order than ours", not another sheet's; "no mask stands twice"
   pub own-accepted : acceptRefusal sheet table ≡ 0
   pub reordered-accepted : acceptRefusal sheet reordered ≡ 0
@@ -404,6 +444,20 @@ examples =
       gave-way-to-timer = refl;
       gave-way-after = refl;
       gave-way-twice = refl;
+      sum-broken = refl;
+      sum-broken-why = refl;
+      sum-kept = refl;
+      sum-of-table = refl;
+      twins-apart = refl;
+      entered-again = refl;
+      older-child = refl;
+      age-stops = refl;
+      not-entered = refl;
+      age-above = refl;
+      age-inactive = refl;
+      age-of-none = refl;
+      age-fresh = refl;
+      age-highest = refl;
       own-accepted = refl;
       reordered-accepted = refl;
       other-sheet = refl;

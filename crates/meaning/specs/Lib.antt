@@ -9,6 +9,7 @@ pub mod Within
 pub mod Tick
 pub mod RoundList
 pub mod Alternatives
+pub mod Ages
 pub mod Run
 pub mod SheetRun
 pub mod Why
@@ -29,6 +30,7 @@ pub mod HighestLevelFirst
 pub mod NamedEvents
 pub mod FiredAlternatives
 pub mod Reasons
+pub mod ModeAges
 pub mod Promises
 pub mod Charts
 pub mod Opened

@@ -12,11 +12,12 @@ use Rattle.meaning.specs.Within.{within, withinEach, masksOf}
 use Rattle.meaning.specs.Tick.{fiveWords, begin, chosen, roundsFrom, tick}
 use Rattle.meaning.specs.RoundList.{takesRound, roundList, tickRounds}
 use Rattle.meaning.specs.Alternatives.{numbersShort, firedIn, fired, tickNumbers}
+use Rattle.meaning.specs.Ages.{age, noAges, nextAges, agesOk, sumsOk}
 use Rattle.meaning.specs.Run.{reading, powerOn, isFresh, readingsOk, dueTimers, nextReadings, nextState, stops, tickThen, outputShort, inputForeign, ran, tickRefusal, ticks, run}
-use Rattle.meaning.specs.SheetRun.{stateOk, tickFrom, stateAfter, sheetStep, numbersFrom, sheetNumbers, withNumbers, sheetRun}
+use Rattle.meaning.specs.SheetRun.{timersOk, stateOk, tickFrom, stateAfter, sheetStep, numbersFrom, sheetNumbers, withNumbers, sheetRun}
 use Rattle.meaning.specs.Why.{refusalOf, reasonWords, aheadOf, gaveWayIn, roundIn, reason, noTransition, whyRefusal, why}
 use Rattle.meaning.specs.Table.{wordIn, kIn, tIn, bIn, sourceIn, delayIn, offsetIn, lengthIn, endBeforeIn, maskIn, timersIn, cellsIn, cellWord, timerOk, blockOk, tableOk}
-use Rattle.meaning.specs.TableRun.{dueNumber, tableStateOk, cellOf, stateAfterCell, isStale, tableStep, tableRun}
+use Rattle.meaning.specs.TableRun.{dueNumber, tableTimersOk, tableStateOk, cellOf, stateAfterCell, isStale, tableStep, tableRun}
 use Rattle.meaning.specs.Walk.{dueSet, workListFull, timersMany, cellCount, cellTick, listing, cellsFrom, walkFrom, walk}
 use Rattle.meaning.specs.Idle.{takenByBlock, takenByBlocks, idle, leavesIdle}
 use Rattle.meaning.specs.Compile.{pairsFrom, timerWord, cellWords, blockWords, tableWords, compileRefusal, compile}
@@ -65,12 +66,16 @@ unfoldable in-alternatives : Unit {0}
 unfolding takesRound roundList tickRounds numbersShort firedIn fired tickNumbers
 in-alternatives = tt
 
+unfoldable in-ages : Unit {0}
+unfolding age noAges nextAges agesOk sumsOk
+in-ages = tt
+
 unfoldable in-run : Unit {0}
 unfolding reading powerOn isFresh readingsOk dueTimers nextReadings nextState stops tickThen outputShort inputForeign ran tickRefusal ticks run
 in-run = tt
 
 unfoldable in-sheet-run : Unit {0}
-unfolding stateOk tickFrom stateAfter sheetStep numbersFrom sheetNumbers withNumbers sheetRun
+unfolding timersOk stateOk tickFrom stateAfter sheetStep numbersFrom sheetNumbers withNumbers sheetRun
 in-sheet-run = tt
 
 unfoldable in-why : Unit {0}
@@ -82,7 +87,7 @@ unfolding wordIn kIn tIn bIn sourceIn delayIn offsetIn lengthIn endBeforeIn mask
 in-table = tt
 
 unfoldable in-table-run : Unit {0}
-unfolding dueNumber tableStateOk cellOf stateAfterCell isStale tableStep tableRun
+unfolding dueNumber tableTimersOk tableStateOk cellOf stateAfterCell isStale tableStep tableRun
 in-table-run = tt
 
 unfoldable in-walk : Unit {0}
@@ -106,5 +111,5 @@ unfolding names
 in-named-events = tt
 
 unfoldable pub opened : Unit {0}
-unfolding in-sets in-lists in-sheet in-check in-hierarchy in-gives-way in-reaction in-within in-tick in-alternatives in-run in-sheet-run in-why in-table in-table-run in-walk in-compile in-milliseconds in-faithful in-named-events
+unfolding in-sets in-lists in-sheet in-check in-hierarchy in-gives-way in-reaction in-within in-tick in-alternatives in-ages in-run in-sheet-run in-why in-table in-table-run in-walk in-compile in-milliseconds in-faithful in-named-events
 opened = tt

@@ -28,6 +28,7 @@ use Rattle.meaning.specs.Milliseconds.{WholeDelay, RestBelow, TicksFit}
 use Rattle.meaning.specs.NoIdleArrows.{IdleRefused, RefusedIdle, IdleLeaves, EveryArrowTaken}
 use Rattle.meaning.specs.FiredAlternatives.{FiredTaken, FiredRange, NumbersTaken}
 use Rattle.meaning.specs.Reasons.{ReasonHolds, ReasonOnly, SameRefusal, SameTick}
+use Rattle.meaning.specs.ModeAges.{AgeSince, AgeStays, SumsInSheet, SumsInAccepted, SumsInCompiled, AgesApartInSheet, AgesApartInTable, AgesApartInWhy}
 
 -- a tick from power-on or from a consistent set leaves a consistent set
 unfoldable pub KeepsConsistent : Type 0
@@ -144,3 +145,11 @@ pub record Promised : Type 0 where
   pub reasonOnly : ReasonOnly
   pub sameRefusal : SameRefusal
   pub sameTick : SameTick
+  pub ageSince : AgeSince
+  pub ageStays : AgeStays
+  pub sumsInSheet : SumsInSheet
+  pub sumsInAccepted : SumsInAccepted
+  pub sumsInCompiled : SumsInCompiled
+  pub agesApartInSheet : AgesApartInSheet
+  pub agesApartInTable : AgesApartInTable
+  pub agesApartInWhy : AgesApartInWhy

@@ -6,12 +6,14 @@ use lib.Dec.{eqb, leb, ltb}
 use lib.ListN.{length, getD, replicate}
 use Rattle.sets.specs.Sets.{has, those, every}
 use Rattle.meaning.specs.Lists.{rowFrom, overwritten, refusedIf, firstRefusal}
+use Rattle.meaning.specs.Ages.{noAges, nextAges}
 
 -- "A state is a mode set and one reading per transition"; in a table run a block number in place of the set. There are 64
--- readings, those at T and above 0.
+-- readings, those at T and above 0. With Ask 10 it has 32 ages too.
 pub record State : Type 0 where
   pub at : ℕ
   pub readings : List ℕ
+  pub ages : List ℕ
 
 -- the reading of transition t
 unfoldable pub reading : List ℕ → ℕ → ℕ
@@ -19,7 +21,7 @@ reading readings t = getD readings t 0
 
 -- "Fresh state: set 0 (table: block 0), all readings 0."
 unfoldable pub powerOn : State
-powerOn = record { at = 0; readings = replicate 64 0 }
+powerOn = record { at = 0; readings = replicate 64 0; ages = noAges }
 
 unfoldable pub isFresh : State → Bool
 isFresh q = eqb (q .at) 0 && every 64 (λ t. eqb (reading (q .readings) t) 0)
@@ -39,10 +41,15 @@ unfoldable pub nextReadings : ℕ → ℕ → (ℕ → ℕ) → (ℕ → ℕ) �
 nextReadings timers entered sourceOf delayOf readings =
     rowFrom 0 64 (λ t. cond (has timers t) (cond (has entered (sourceOf t)) (delayOf t) (reading readings t - 1)) 0)
 
--- the state that a tick from q leaves: the mode set or block after it, by the timers that run there and the modes entered
-unfoldable pub nextState : ℕ → ℕ → ℕ → (ℕ → ℕ) → (ℕ → ℕ) → State → State
-nextState at timers entered sourceOf delayOf q =
-    record { at = at; readings = nextReadings timers entered sourceOf delayOf (q .readings) }
+-- the state that a tick from q leaves: the mode set or block after it, by the modes that are active there, the timers that run and the
+-- modes entered
+unfoldable pub nextState : ℕ → ℕ → ℕ → ℕ → (ℕ → ℕ) → (ℕ → ℕ) → State → State
+nextState at modes timers entered sourceOf delayOf q =
+    record {
+      at = at;
+      readings = nextReadings timers entered sourceOf delayOf (q .readings);
+      ages = nextAges modes entered (q .ages);
+    }
 
 -- what one tick gives: its refusal (0: it is done), its five words, its rounds (0 for a table, which has none), the state after it
 pub record Step : Type 0 where

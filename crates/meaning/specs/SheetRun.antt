@@ -10,7 +10,8 @@ use Rattle.meaning.specs.Hierarchy.{consistent}
 use Rattle.meaning.specs.Reaction.{TickSets, running, delay}
 use Rattle.meaning.specs.Tick.{Tick, tick, fiveWords}
 use Rattle.meaning.specs.Alternatives.{numbersShort, tickNumbers}
-use Rattle.meaning.specs.Run.{State, isFresh, readingsOk, dueTimers, nextState, Step, Ticks, ticks, outputShort, Run, run}
+use Rattle.meaning.specs.Ages.{agesOk, sumsOk}
+use Rattle.meaning.specs.Run.{State, reading, isFresh, readingsOk, dueTimers, nextState, Step, Ticks, ticks, outputShort, Run, run}
 
 -- a sheet run, and the numbers of its transitions at its end
 pub record NumberedRun : Type 0 where
@@ -18,9 +19,14 @@ pub record NumberedRun : Type 0 where
   pub numbers : List ℕ
 
 module _ (s : List ℕ) where
-  -- 14 if not: "a state neither fresh nor (sheet) consistent with each running reading 1 to its delay and others 0"
+  -- "a state .. fresh [or] (sheet) consistent with each running reading 1 to its delay and others 0"
+  unfoldable pub timersOk : State → Bool
+  timersOk q = isFresh q || consistent s (q .at) && readingsOk (running s (q .at)) (delay s) (q .readings)
+
+  -- 14 if not: that, and with Ask 10 the ages and the sums of reading and age
   unfoldable pub stateOk : State → Bool
-  stateOk q = isFresh q || consistent s (q .at) && readingsOk (running s (q .at)) (delay s) (q .readings)
+  stateOk q =
+      timersOk q && agesOk (q .at) (q .ages) && sumsOk (running s (q .at)) (source s) (delay s) (reading (q .readings)) (q .ages)
 
   -- the tick from a state on the input i
   unfoldable pub tickFrom : State → ℕ → Tick
@@ -28,7 +34,7 @@ module _ (s : List ℕ) where
 
   -- the state after a tick that left the sets z
   unfoldable pub stateAfter : State → TickSets → State
-  stateAfter q z = nextState (z .modes) (running s (z .modes)) (z .entered) (source s) (delay s) q
+  stateAfter q z = nextState (z .modes) (z .modes) (running s (z .modes)) (z .entered) (source s) (delay s) q
 
   -- one tick of a run, refused 8 or 9
   unfoldable pub sheetStep : State → ℕ → Step

@@ -5,8 +5,9 @@ use Prim.Native.Nat.{ℕ, _+_, _*_, _^_}
 use lib.Dec.{eqb, ltb}
 use Rattle.sets.specs.Sets.{has, digit, members, someIn}
 use Rattle.meaning.specs.Lists.{rowFrom, refusedIf}
+use Rattle.meaning.specs.Ages.{agesOk}
 use Rattle.meaning.specs.Run.{State, reading, isFresh, readingsOk, dueTimers, nextState, Step, Ticks, ticks, outputShort, Run, run}
-use Rattle.meaning.specs.Table.{kIn, bIn, sourceIn, delayIn, timersIn, cellWord, tableOk}
+use Rattle.meaning.specs.Table.{kIn, bIn, sourceIn, delayIn, maskIn, timersIn, cellWord, tableOk}
 
 -- "d is the set of due timers, lowest transition in bit 0": the number that the due ones of the timers ts make
 unfoldable pub dueNumber : List ℕ → ℕ → ℕ
@@ -14,10 +15,14 @@ dueNumber [] due = 0
 dueNumber (t ∷ ts) due = digit (has due t) + 2 * dueNumber ts due
 
 module _ (w : List ℕ) where
-  -- 14 if not: "(table) block below B, nonzero, readings likewise"
-  unfoldable pub tableStateOk : State → Bool
-  tableStateOk q =
+  -- "(table) block below B, nonzero, readings likewise", or fresh
+  unfoldable pub tableTimersOk : State → Bool
+  tableTimersOk q =
       isFresh q || ltb 0 (q .at) && ltb (q .at) (bIn w) && readingsOk (timersIn w (q .at)) (delayIn w) (q .readings)
+
+  -- 14 if not: that, and with Ask 10 the ages
+  unfoldable pub tableStateOk : State → Bool
+  tableStateOk q = tableTimersOk q && agesOk (maskIn w (q .at)) (q .ages)
 
   -- "the block's due timers choose the cell", "at number d times 2^k plus the input set"
   unfoldable pub cellOf : State → ℕ → ℕ
@@ -29,7 +34,7 @@ module _ (w : List ℕ) where
   unfoldable pub stateAfterCell : State → ℕ → State
   stateAfterCell q c =
       let b = cellWord w (q .at) c 0 in
-      nextState b (timersIn w b) (cellWord w (q .at) c 1) (sourceIn w) (delayIn w) q
+      nextState b (maskIn w b) (timersIn w b) (cellWord w (q .at) c 1) (sourceIn w) (delayIn w) q
 
   -- 15 at a tick: "a next timer has no reading left and was not entered"
   unfoldable pub isStale : State → Bool

@@ -10,6 +10,7 @@ use Rattle.meaning.specs.Lists.{rowFrom}
 use Rattle.meaning.specs.Sheet.{tOf, source}
 use Rattle.meaning.specs.Reaction.{TickSets, isDelay, delay, running, alternative, eligible, ambiguous, restless, entering, afterRound}
 use Rattle.meaning.specs.Tick.{Tick, begin}
+use Rattle.meaning.specs.Ages.{nextAges}
 use Rattle.meaning.specs.Run.{State, reading}
 
 -- a tick, and the readings after it
@@ -59,4 +60,5 @@ module _ (s : List ℕ) where
       record {
         at = o .tick .sets .modes;
         readings = rowFrom 0 64 (λ t. cond (has (running s (o .tick .sets .modes)) t) (getD (o .readings) t 0) 0);
+        ages = nextAges (o .tick .sets .modes) (o .tick .sets .entered) (q .ages);
       }

@@ -91,6 +91,8 @@ module _ (s t : List ℕ) (cs : List Call) (rs : List Run) where
     pub none : runOf rs j .done ≡ 0 → runOf rs j .state ≡ stateBefore rs j
     -- "a run whose last done tick it is returns the sheet's readings and the number of a block with that set as its mask"
     pub readings : 0 < runOf rs j .done → runOf rs j .state .readings ≡ sheetState s cs (doneBy s cs j) .readings
+    -- "demand 3's runs return the sheet's ages with its readings" (document 02, Ask 10)
+    pub ages : 0 < runOf rs j .done → runOf rs j .state .ages ≡ sheetState s cs (doneBy s cs j) .ages
     pub block : 0 < runOf rs j .done → runOf rs j .state .at < bIn t
     pub mask : 0 < runOf rs j .done → maskIn t (runOf rs j .state .at) ≡ sheetState s cs (doneBy s cs j) .at
 

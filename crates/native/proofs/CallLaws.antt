@@ -18,7 +18,7 @@ use Rattle.meaning.specs.Why.{Report, refusalOf, reasonWords, why}
 use Rattle.meaning.specs.TableRun.{tableRun}
 use Rattle.meaning.specs.Compile.{Compiled, compile}
 use Rattle.meaning.specs.Within.{Masked, masksOf}
-use Rattle.run.specs.States.{wordsOf, stateIn}
+use Rattle.run.specs.States.{stateWords, wordsOf, stateIn}
 use Rattle.native.specs.Calls.{compileCall, WithinCall, withinCall, callShort, RunCall, runCall, sheetCounts, sheetCall, tableCall, whyCall}
 
 -- a row of stores at the front
@@ -70,23 +70,23 @@ module _ (sheet table work info : List ℕ) where
 
 -- fewer words lent than asked for, in info or in the state; or enough
 module _ (n : ℕ) (state info : List ℕ) where
-  call-short : (length info < n) ⊎ (ltb (length state) 65 ≡ true) → callShort n state info ≡ true
+  call-short : (length info < n) ⊎ (ltb (length state) stateWords ≡ true) → callShort n state info ≡ true
   unfolding callShort
   call-short (inl h) = rw (lt-ltb (length info) n h)
   call-short (inr h) = rw (h, or-true)
 
-  call-enough : n ≤ length info → 65 ≤ length state → callShort n state info ≡ false
+  call-enough : n ≤ length info → stateWords ≤ length state → callShort n state info ≡ false
   unfolding callShort
-  call-enough h k = rw (le-ltb (length info) n h, le-ltb (length state) 65 k)
+  call-enough h k = rw (le-ltb (length info) n h, le-ltb (length state) stateWords k)
 
 module _ (o : Run) (counts state out info : List ℕ) where
-  pub run-nothing : (length info < length counts) ⊎ (ltb (length state) 65 ≡ true)
+  pub run-nothing : (length info < length counts) ⊎ (ltb (length state) stateWords ≡ true)
       → record { answer = 4294967295; state = state; out = out; info = info } ≡ runCall o counts state out info
   unfolding runCall
   run-nothing h = rw (call-short (length counts) state info h)
 
   -- the state and the counts put into lent words
-  pub run-answered : length counts ≤ length info → 65 ≤ length state → (answer : ℕ) (words : List ℕ)
+  pub run-answered : length counts ≤ length info → stateWords ≤ length state → (answer : ℕ) (words : List ℕ)
       → answer ≡ o .refusal → words ≡ overwritten (wordsOf (o .state)) state
       → record { answer = answer; state = words; out = o .out; info = sets info 0 counts } ≡ runCall o counts state out info
   unfolding runCall
@@ -102,14 +102,14 @@ counted o whole low n l =
 
 -- the sheet run: its numbers too
 module _ (sheet state inputs out numbers info : List ℕ) where
-  pub sheet-nothing : (length info < 3) ⊎ (ltb (length state) 65 ≡ true)
+  pub sheet-nothing : (length info < 3) ⊎ (ltb (length state) stateWords ≡ true)
       → record { call = record { answer = 4294967295; state = state; out = out; info = info }; numbers = numbers }
       ≡ sheetCall sheet state inputs out numbers info
   unfolding sheetCall runCall sheetCounts
   sheet-nothing h = rw (call-short 3 state info h)
 
   -- o: what was run from the state q that the words hold
-  pub sheet-answered : 3 ≤ length info → 65 ≤ length state → (o : NumberedRun) (q : State) → q ≡ stateIn state → o ≡ sheetRun sheet q inputs out numbers
+  pub sheet-answered : 3 ≤ length info → stateWords ≤ length state → (o : NumberedRun) (q : State) → q ≡ stateIn state → o ≡ sheetRun sheet q inputs out numbers
       → (whole low : ℕ) → o .run .rounds ≡ whole * 2 ^ 32 + low → low < 2 ^ 32 → (answer : ℕ) (words : List ℕ)
       → answer ≡ o .run .refusal → words ≡ overwritten (wordsOf (o .run .state)) state
       → record {
@@ -132,12 +132,12 @@ module _ (table state inputs out info : List ℕ) (o : Run) (q : State) (qe : q 
 -- ---- why
 
 module _ (sheet state : List ℕ) (input transition : ℕ) (info : List ℕ) where
-  pub why-nothing : (length info < 3) ⊎ (ltb (length state) 65 ≡ true) → record { answer = 4294967295; info = info } ≡ whyCall sheet state input transition info
+  pub why-nothing : (length info < 3) ⊎ (ltb (length state) stateWords ≡ true) → record { answer = 4294967295; info = info } ≡ whyCall sheet state input transition info
   unfolding whyCall
   why-nothing h = rw (call-short 3 state info h)
 
   -- o: what was reported of the state q that the words hold
-  module _ (h : 3 ≤ length info) (k : 65 ≤ length state) {q : State} (qe : q ≡ stateIn state) {o : Report} (e : o ≡ why sheet q input transition) where
+  module _ (h : 3 ≤ length info) (k : stateWords ≤ length state) {q : State} (qe : q ≡ stateIn state) {o : Report} (e : o ≡ why sheet q input transition) where
     pub why-answered : {answer : ℕ} {words : List ℕ} → answer ≡ refusalOf o → words ≡ overwritten (reasonWords o) info
         → record { answer = answer; info = words } ≡ whyCall sheet state input transition info
     unfolding whyCall

@@ -11,7 +11,7 @@ use Rattle.meaning.specs.Why.{refusalOf, reasonWords, why}
 use Rattle.meaning.specs.TableRun.{tableRun}
 use Rattle.meaning.specs.Compile.{compile}
 use Rattle.meaning.specs.Within.{masksOf}
-use Rattle.run.specs.States.{wordsOf, stateIn}
+use Rattle.run.specs.States.{stateWords, wordsOf, stateIn}
 
 pub record CompileCall : Type 0 where
   pub answer : ℕ
@@ -46,11 +46,11 @@ pub record RunCall : Type 0 where
   pub out : List ℕ
   pub info : List ℕ
 
--- fewer words lent than asked for: n in info, 65 in the state
+-- fewer words lent than asked for: n in info, a state's in the state
 unfoldable pub callShort : ℕ → List ℕ → List ℕ → Bool
-callShort n state info = ltb (length info) n || ltb (length state) 65
+callShort n state info = ltb (length info) n || ltb (length state) stateWords
 
--- a call that ran, puts its state into 65 words and its counts into info
+-- a call that ran, puts its state into the state's words and its counts into info
 unfoldable pub runCall : Run → List ℕ → List ℕ → List ℕ → List ℕ → RunCall
 runCall o counts state out info =
     let nothing : RunCall = record { answer = 4294967295; state = state; out = out; info = info } in

@@ -1,5 +1,5 @@
 // The operations under C names, for a program in another language. A slice passes as a pointer and a length. Each answers the
-// refusal's number, 0 for none, and puts its counts into `info`; a state is 65 lent words, the mode set or block and the readings.
+// refusal's number, 0 for none, and puts its counts into `info`; a state is 97 lent words: the mode set or block, readings, ages.
 // With fewer words in `info` or in the state than asked for, a call does nothing and answers 4294967295.
 ghost use mathlib.Core.Path.{_≡_};
 ghost use mathlib.Core.Bool.{cond};

@@ -92,10 +92,6 @@ module _ (w : List ℕ) (h : T (tableOk w)) where
             subst T (ap (has (meet entered timed)) e ∙ entered-timed) (r .2))
             (λ g. someIn-i 32 (meet entered timed) (λ m. has (getD from m 0) t) (sourceIn w t) small (subst T (sym entered-timed) g) from-source)
 
-        -- no source of a timer was entered
-        pub none-entered : meet entered timed ≡ 0 → has entered (sourceIn w t) ≡ false
-        none-entered z = sym entered-timed ∙ ap (λ (x : ℕ). has x (sourceIn w t)) z ∙ has-none (sourceIn w t)
-
   -- ---- the readings after a cell
 
   module _ (q : State) (c : ℕ) (l : cellWord w (q .at) c 0 < bIn w) where

@@ -1,6 +1,6 @@
 // The table run.
 ghost use mathlib.Core.Path.{_≡_};
-ghost use mathlib.Core.Bool.{not, true};
+ghost use mathlib.Core.Bool.{not, _&&_, true};
 ghost use mathlib.Core.List.{List};
 ghost use Prim.Native.Nat.{ℕ, _+_, _*_, _^_, _≤_, _<_};
 ghost use lib.Dec.{eqb};
@@ -13,6 +13,7 @@ ghost use Rattle.meaning.specs.Run.{ran};
 ghost use Rattle.meaning.specs.Table.{bIn, tableOk};
 ghost use Rattle.meaning.specs.TableRun.{tableStateOk, tableTicks, tableRun};
 ghost use Rattle.run.specs.States.{stateOf};
+ghost use Rattle.run.specs.Entries.{limitsBy};
 ghost use Rattle.run.specs.Runs.{endedRun};
 ghost use Rattle.recorder.specs.Timers.{timerDelayIn};
 ghost use Rattle.recorder.specs.Runs.{ranOf, TableBlockOf, fiveIn};
@@ -24,10 +25,15 @@ use super::timers::timers_from;
 use meaning::refusal::Refusal;
 use rows::Five;
 use rows::put_five;
+use run::ages::age_limits;
+use run::ages::enter_by_words;
+use run::ages::note_entries;
 use run::counts::Ticks;
 use run::deadlines::deadlines;
-use run::deadlines::due;
+use run::deadlines::due_by;
 use run::deadlines::restart;
+use run::deadlines::soon_after;
+use run::deadlines::soon_with;
 use run::state::State;
 use run::state::state_at;
 use sets::transitions;
@@ -43,9 +49,10 @@ pub struct Ran {
     pub refusal: Refusal,
 }
 
-// A block: its number, where its cells begin, its running timers.
+// A block: its number, its mode mask, where its cells begin, its running timers.
 struct TableBlock {
     number: u32,
+    mask: u32,
     cells: usize,
     timers: u64,
 }
@@ -57,6 +64,7 @@ fn block_at(table: &[u32], number: u32) -> TableBlock
     let at = offset(table, number as usize);
     TableBlock {
         number,
+        mask: table[at],
         cells: at + 3,
         timers: timers_at(table, at),
     }
@@ -91,13 +99,42 @@ fn is_stale(timers: u64, due: u64, lasting: u64) -> bool
     transitions::minus(lasting, transitions::minus(timers, due)) != 0
 }
 
-// A run that ends after some ticks in a block; no deadline of its timers is past.
-fn ended(ends: &[u64; 64], b: TableBlock, done: usize, why: Refusal) -> Ran
-    requires { ⌜ ((t : ℕ) → has (b .timers) t ≡ true → done ≤ getD (now ends) t 0) ⌝ }
-    ensures { λ r. ⌜ ((out : List ℕ) →
-        ranOf r out ≡ endedRun (now (ends .entry)) (b .number) (b .timers) done 0 (numberOf why) out) ⌝ }
+// The tick stays in its block, with no timer due and no mode entered: nothing is to note.
+fn stays(next: u32, number: u32, due: u64, entered: u32) -> bool
+    ensures { λ r. ⌜ r ≡ (eqb next number && eqb due 0 && eqb entered 0) ⌝ }
 {
-    let state = state_at(ends, b.number, b.timers, done as u64);
+    if next != number {
+        return false;
+    }
+    if due != 0 {
+        return false;
+    }
+    entered == 0
+}
+
+// A run that ends after some ticks in a block; no deadline of its timers is past. The modes of `seen` were last entered as the words
+// of the ticks say; none of the block's is yet to be entered.
+fn ended(
+    ends: &[u64; 64],
+    limits: &mut [u64; 32],
+    out: &[u32],
+    seen: u32,
+    b: TableBlock,
+    done: usize,
+    why: Refusal,
+) -> Ran
+    requires { ⌜
+        ((t : ℕ) → has (b .timers) t ≡ true → done ≤ getD (now ends) t 0)
+        × ((m : ℕ) → has (b .mask) m ≡ true → getD (limitsBy (now limits) (now out) seen done) m 0 ≤ done + 65535)
+        × (length (now limits) ≡ 32)
+        × (5 * done ≤ length (now out)) ⌝ }
+    ensures { λ r. ⌜ ((words : List ℕ) →
+        ranOf r words
+        ≡ endedRun (now (ends .entry)) (limitsBy (now (limits .entry)) (now (out .entry)) seen done)
+        (b .number) (b .mask) (b .timers) done 0 (numberOf why) words) ⌝ }
+{
+    enter_by_words(out, limits, seen, done);
+    let state = state_at(ends, limits, b.number, b.mask, b.timers, done as u64);
     Ran {
         done: Ticks(done),
         state,
@@ -105,8 +142,7 @@ fn ended(ends: &[u64; 64], b: TableBlock, done: usize, why: Refusal) -> Ran
     }
 }
 
-// Tick by tick: 13, then 15. A tick that stays in its block, with no timer due and no timer's source entered, moves no
-// deadline.
+// Tick by tick: 13, then 15.
 fn ticks(table: &[u32], delays: &[u64; 64], start: State, inputs: &[u32], out: &mut [u32]) -> Ran
     requires { ⌜
         (tableOk (now table) ≡ true)
@@ -121,32 +157,40 @@ fn ticks(table: &[u32], delays: &[u64; 64], start: State, inputs: &[u32], out: &
     let from = timers_from(table);
     let timed = sources(&from);
     let readings = start.readings;
+    let ages = start.ages;
     let mut ends = deadlines(readings);
+    let mut limits = age_limits(ages);
     let mut b = block_at(table, start.at);
+    let mut seen = 0u32;
+    let mut soon = 0u64;
     let mut i = 0;
     while i < inputs.len() {
         let input = inputs[i];
         if input >> k != 0 {
-            return ended(&ends, b, i, Refusal::InputSet);
+            return ended(&ends, &mut limits, out, seen, b, i, Refusal::InputSet);
         }
         let now = (i + 1) as u64;
-        let d = due(&ends, b.timers, now);
+        let d = due_by(&ends, b.timers, soon, now);
         let cell = b.cells + 6 * cell_number(d.number, k, input);
         let next = table[cell];
-        let entered = table[cell + 1] & timed;
-        if next != b.number || d.set != 0 || entered != 0 {
+        let entered = table[cell + 1];
+        if stays(next, b.number, d.set, entered) {
+            soon = soon_after(&ends, b.timers, soon, now);
+        } else {
             let to = block_at(table, next);
-            let again = to.timers & started(&from, entered);
+            let again = to.timers & started(&from, entered & timed);
             if is_stale(b.timers, d.set, transitions::minus(to.timers, again)) {
-                return ended(&ends, b, i, Refusal::Layout);
+                return ended(&ends, &mut limits, out, seen, b, i, Refusal::Layout);
             }
             restart(delays, &mut ends, again, now);
+            soon = soon_with(&ends, again, d.set, soon);
+            seen = note_entries(&mut limits, seen, b.mask, to.mask, entered, i);
             b = to;
         }
         put_five(out, 5 * i, five_at(table, cell));
         i += 1;
     }
-    ended(&ends, b, i, Refusal::Nothing)
+    ended(&ends, &mut limits, out, seen, b, i, Refusal::Nothing)
 }
 
 // A run that stops before any tick.

@@ -31,6 +31,15 @@ row-set n f g t e = row-of (set (rowFrom 0 n f) t (g t)) n g (simp (length-set, 
     at j l (yes p) = rw p (getD-set-same (rowFrom 0 n f) t (g t) 0 (omega (arith, rowFrom-length f 0 n)))
     at j l (no p) = getD-set-other (rowFrom 0 n f) t j (g t) 0 p ∙ row-at n f j l ∙ e j l p
 
+-- a list by its first words: storing the next one
+pub words-turn : (r : List ℕ) (f : ℕ → ℕ) (t : ℕ) → t < length r → ((j : ℕ) → j < t → getD r j 0 ≡ f j)
+    → (j : ℕ) → j < t + 1 → getD (set r t (f t)) j 0 ≡ f j
+words-turn r f t l e j k = at (ℕ-discrete j t)
+  where
+    at : Dec (j ≡ t) → getD (set r t (f t)) j 0 ≡ f j
+    at (yes p) = rw p (getD-set-same r t (f t) 0 l)
+    at (no p) = getD-set-other r t j (f t) 0 p ∙ e j (omega arith)
+
 -- ---- a list copied word by word
 
 pub copy-turn : (r l : List ℕ) (t : ℕ) → t < length r → t < length l → take t r ≡ take t l → take (t + 1) (set r t (getD l t 0)) ≡ take (t + 1) l
@@ -41,25 +50,25 @@ copy-done r l t h k e = sym (take-all t r h) ∙ e ∙ take-all t l k
 
 -- ---- a row with words by a rule at the members of a set
 
-module _ (f : ℕ → ℕ) where
-  -- the list r of 64 words, with f t at each member t of s
+module _ (n : ℕ) (f : ℕ → ℕ) where
+  -- the list r of n words, with f t at each member t of s
   abbrev pub filled : List ℕ → ℕ → List ℕ
-  filled r s = rowFrom 0 64 (λ t. cond (has s t) (f t) (getD r t 0))
+  filled r s = rowFrom 0 n (λ t. cond (has s t) (f t) (getD r t 0))
 
   -- storing it at the lowest member leaves the others to store
-  pub filled-turn : {s t s′ : ℕ} (r : List ℕ) → Turn 64 s t s′ → length r ≡ 64 → filled (set r t (f t)) s′ ≡ filled r s
+  pub filled-turn : {s t s′ : ℕ} (r : List ℕ) → Turn n s t s′ → length r ≡ n → filled (set r t (f t)) s′ ≡ filled r s
   filled-turn {s} {t} {s′} r u e =
-      rowFrom-ext (λ j. cond (has s′ j) (f j) (getD (set r t (f t)) j 0)) (λ j. cond (has s j) (f j) (getD r j 0)) 0 64 (λ j a b. at j (ℕ-discrete j t))
+      rowFrom-ext (λ j. cond (has s′ j) (f j) (getD (set r t (f t)) j 0)) (λ j. cond (has s j) (f j) (getD r j 0)) 0 n (λ j a b. at j (ℕ-discrete j t))
     where
       at : (j : ℕ) → Dec (j ≡ t) → cond (has s′ j) (f j) (getD (set r t (f t)) j 0) ≡ cond (has s j) (f j) (getD r j 0)
       at j (yes p) =
           rw (p, u .removed, without-it s t, u .lowest .member) (getD-set-same r t (f t) 0 (omega (arith, u .lowest .small)))
       at j (no p) = rw (u .removed, without-other s t j p, getD-set-other r t j (f t) 0 p)
 
-  pub filled-done : (r : List ℕ) (s : ℕ) → s ≡ 0 → length r ≡ 64 → r ≡ filled r s
-  filled-done r s z e = row-of r 64 (λ t. cond (has s t) (f t) (getD r t 0)) e (λ t l. rw (z, has-none t))
+  pub filled-done : (r : List ℕ) (s : ℕ) → s ≡ 0 → length r ≡ n → r ≡ filled r s
+  filled-done r s z e = row-of r n (λ t. cond (has s t) (f t) (getD r t 0)) e (λ t l. rw (z, has-none t))
 
-  pub filled-none : (s : ℕ) → filled (replicate 64 0) s ≡ rowFrom 0 64 (λ t. cond (has s t) (f t) 0)
+  pub filled-none : (s : ℕ) → filled (replicate n 0) s ≡ rowFrom 0 n (λ t. cond (has s t) (f t) 0)
   filled-none s =
-      rowFrom-ext (λ t. cond (has s t) (f t) (getD (replicate 64 0) t 0)) (λ t. cond (has s t) (f t) 0) 0 64
-      (λ j a b. rw (getD-replicate {A = ℕ} 64 j 0 0 (omega arith)))
+      rowFrom-ext (λ t. cond (has s t) (f t) (getD (replicate n 0) t 0)) (λ t. cond (has s t) (f t) 0) 0 n
+      (λ j a b. rw (getD-replicate {A = ℕ} n j 0 0 (omega arith)))

@@ -1,7 +1,7 @@
 -- The loop that finds the due timers of a set: the set built so far, and the number that it makes. Assumes nothing.
 use mathlib.Core.Path.{_≡_, refl, sym, ap, _∙_, subst}
 use mathlib.Core.Bool.{Bool, true, false}
-use mathlib.Core.List.{List}
+use mathlib.Core.List.{List, [], _∷_}
 use Prim.Native.Nat.{ℕ, suc, _+_, _*_, _^_, _≤_, _<_}
 use native.Mathlib.Nat.{add-zero, zero-add, zero-mul, one-mul, mul-add, mul-one, mul-assoc, mul-zero, pow-suc, pow-le-pow-right, lt-of-lt-of-le}
 use native.Mathlib.Numerals.{add-one}
@@ -10,7 +10,7 @@ use lib.ListN.{length}
 use Rattle.sets.specs.Sets.{has, union, minus, digit, those, members, size}
 use Rattle.sets.proofs.Tests.{is-true, of-true}
 use Rattle.sets.proofs.Facts.{size-le}
-use Rattle.sets.proofs.Membership.{has-those}
+use Rattle.sets.proofs.Membership.{has-none, has-those}
 use Rattle.sets.proofs.Members.{Turn, members-turn, members-none}
 use Rattle.sets.proofs.Those.{Subset, subset-turn, those-start, those-tested, those-done}
 use Rattle.meaning.specs.TableRun.{dueNumber}
@@ -91,3 +91,9 @@ module _ (timers : ℕ) (p : ℕ → Bool) where
     c .built ∙ those-done 64 timers rest p z,
     rw (z, members-none, mul-zero, add-zero) at (c .sum),
   )
+
+-- none due
+pub number-none : (ts : List ℕ) → dueNumber ts 0 ≡ 0
+unfolding dueNumber digit
+number-none [] = refl
+number-none (t ∷ ts) = rw (has-none t, number-none ts)

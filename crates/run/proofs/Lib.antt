@@ -2,6 +2,8 @@ pub mod ArrayLaws
 pub mod StateWords
 pub mod ReadingTests
 pub mod DeadlineLaws
+pub mod EntryLaws
 pub mod LoopLaws
 pub mod DueNumberLaws
-pub mod DueSoonLaws
+pub mod SoonestLaws
+pub mod SumLaws

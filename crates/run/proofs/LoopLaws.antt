@@ -15,6 +15,7 @@ use lib.Seq.{drop-cons}
 use borrow.Author.Tests.{le-leb, lt-leb, lt-ltb, le-ltb}
 use Rattle.sets.specs.Sets.{has, those}
 use Rattle.sets.proofs.Tests.{is-true, of-true}
+use Rattle.sets.proofs.Facts.{has-lt}
 use Rattle.rows.specs.Over.{over}
 use Rattle.rows.proofs.OverLaws.{length-over, over-more, over-nil, over-front}
 use Rattle.meaning.specs.Lists.{overwritten}
@@ -22,6 +23,7 @@ use Rattle.meaning.specs.Run.{State, Step, Ticks, stops, tickThen, outputShort,
 use Rattle.meaning.proofs.RunLaws.{tick-known, ticks-end, ticks-refused, ticks-foreign, ticks-go, run-refused, run-state, run-short, run-goes}
 use Rattle.run.specs.Runs.{endedRun}
 use Rattle.run.proofs.DeadlineLaws.{readingsFrom, stateFrom, due-deadlines, state-word}
+use Rattle.run.proofs.EntryLaws.{Young}
 
 -- ---- the input set
 
@@ -121,36 +123,41 @@ module _ (k : ℕ) (step : State → ℕ → Step) (inputs out₀ : List ℕ) (q
                   ∙ placed-more i total out o (ticks k step (drop (suc i) inputs) (o .state)) five (omega (arith, r .room)) ∙ rw add-one refl)) ∙ r .rest;
             }
 
--- ---- the loop by deadlines: those of the timers that run are ahead, by less than 2^16
+-- ---- the loop by deadlines: those of the timers that run are ahead, by less than 2^16; no active mode is yet to be entered
 
-pub record ByDeadlines (k : ℕ) (step : State → ℕ → Step) (inputs out₀ : List ℕ) (q₀ : State) (out ends : List ℕ) (at timers total i : ℕ) : Type 0 where
-  pub reached : Reached k step inputs out₀ q₀ out total i (stateFrom at timers ends i)
+pub record ByDeadlines (k : ℕ) (step : State → ℕ → Step) (inputs out₀ : List ℕ) (q₀ : State) (out ends limits : List ℕ) (at active timers total i : ℕ) : Type 0 where
+  pub reached : Reached k step inputs out₀ q₀ out total i (stateFrom at active timers ends limits i)
   pub long : length ends ≡ 64
   pub ahead : (t : ℕ) → T (has timers t) → (i < getD ends t 0) × (getD ends t 0 ≤ i + 65535)
+  pub young : Young active limits i
 
--- with the timers as the code has them
-module _ {k : ℕ} {step : State → ℕ → Step} {inputs out₀ : List ℕ} {q₀ : State} {out ends : List ℕ} {at timers total i : ℕ}
-    (r : ByDeadlines k step inputs out₀ q₀ out ends at timers total i) {now : ℕ} (te : now ≡ timers) where
+-- with the active modes and the timers as the code has them
+module _ {k : ℕ} {step : State → ℕ → Step} {inputs out₀ : List ℕ} {q₀ : State} {out ends limits : List ℕ} {at active timers total i : ℕ}
+    (r : ByDeadlines k step inputs out₀ q₀ out ends limits at active timers total i) {modes now : ℕ} (ae : modes ≡ active) (te : now ≡ timers) where
   -- no deadline of theirs is past
   pub later : (t : ℕ) → has now t ≡ true → i ≤ getD ends t 0
   later t e = le-of-lt (r .ahead t (of-true (rw te at e)) .0)
+
+  -- none of theirs is yet to be entered
+  pub entered-before : modes < 2 ^ 32 → (m : ℕ) → has modes m ≡ true → getD limits m 0 ≤ i + 65535
+  entered-before fits m e = r .young m (has-lt 32 modes m fits (of-true e)) (of-true (rw ae at e))
 
   pub due-now : {d : ℕ} → d ≡ those 64 now (λ t. eqb (getD ends t 0) (i + 1)) → d ≡ dueTimers timers (readingsFrom timers ends i)
   due-now e = e ∙ rw te (due-deadlines timers ends i (λ t _ h. r .ahead t h .0))
 
   -- what a run that ends now returns
-  ends-now : (e : ℕ) → endedRun ends at now i total e out ≡ endsHere k step inputs out₀ q₀ (r .reached) e
-  ends-now e = rw (te, state-word timers ends i at (λ t l h. omega (arith, r .ahead t h .1)))
+  ends-now : (e : ℕ) → endedRun ends limits at modes now i total e out ≡ endsHere k step inputs out₀ q₀ (r .reached) e
+  ends-now e = rw (ae, te, state-word timers ends i at active limits (λ t l h. omega (arith, r .ahead t h .1)))
 
-  pub ends-done : length inputs ≤ i → endedRun ends at now i total 0 out ≡ ran out₀ (ticks k step inputs q₀)
+  pub ends-done : length inputs ≤ i → endedRun ends limits at modes now i total 0 out ≡ ran out₀ (ticks k step inputs q₀)
   ends-done l = ends-now 0 ∙ reached-end k step inputs out₀ q₀ (r .reached) l
 
   module _ (l : i < length inputs) where
-    pub ends-foreign : (getD inputs i 0 / 2 ^ k ≡ 0 → ⊥) → endedRun ends at now i total 13 out ≡ ran out₀ (ticks k step inputs q₀)
+    pub ends-foreign : (getD inputs i 0 / 2 ^ k ≡ 0 → ⊥) → endedRun ends limits at modes now i total 13 out ≡ ran out₀ (ticks k step inputs q₀)
     ends-foreign n = ends-now 13 ∙ reached-foreign k step inputs out₀ q₀ (r .reached) l n
 
-    pub ends-refused : getD inputs i 0 / 2 ^ k ≡ 0 → {e : ℕ} → step (stateFrom at timers ends i) (getD inputs i 0) .refusal ≡ e → (e ≡ 0 → ⊥)
-        → endedRun ends at now i total e out ≡ ran out₀ (ticks k step inputs q₀)
+    pub ends-refused : getD inputs i 0 / 2 ^ k ≡ 0 → {e : ℕ} → step (stateFrom at active timers ends limits i) (getD inputs i 0) .refusal ≡ e → (e ≡ 0 → ⊥)
+        → endedRun ends limits at modes now i total e out ≡ ran out₀ (ticks k step inputs q₀)
     ends-refused b {e} z n = ends-now e ∙ reached-refused k step inputs out₀ q₀ (r .reached) l b z n
 
 -- ---- the whole run: what is refused before any tick, else the ticks

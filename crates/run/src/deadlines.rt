@@ -1,6 +1,5 @@
 // Readings during a run: for each timer its deadline, the tick, counted from 1 in the call, in which its reading is 0.
 ghost use mathlib.Core.Path.{_≡_};
-ghost use mathlib.Core.Logic.{_⊎_};
 ghost use mathlib.Core.Bool.{cond, true};
 ghost use Prim.Native.Nat.{ℕ, _+_, _-_, _%_, _^_, _<_, _≤_};
 ghost use lib.Dec.{eqb};
@@ -64,44 +63,58 @@ pub fn due(ends: &[u64; 64], timers: u64, tick: u64) -> DueTimers
     DueTimers { set, number }
 }
 
-// The timers of a set that are due in a tick, and a tick before which no other of them is due.
-pub struct DueSoon {
-    pub set: u64,
-    pub next: u64,
-}
-
-pub fn due_soon(ends: &[u64; 64], timers: u64, tick: u64) -> DueSoon
-    ensures { λ r. ⌜
-        (r .set ≡ those 64 timers (λ t. eqb (getD (now (ends .entry)) t 0) tick))
-        × ((t : ℕ) → has timers t ≡ true → (getD (now (ends .entry)) t 0 ≡ tick) ⊎ (r .next ≤ getD (now (ends .entry)) t 0)) ⌝ }
-{
-    let mut set = 0u64;
-    let mut next = 0xffff_ffff_ffff_ffffu64;
-    let mut rest = timers;
-    while rest != 0 {
-        let t = transitions::lowest(rest);
-        let e = ends[t];
-        if e == tick {
-            set |= transitions::single(t);
-        } else if e < next {
-            next = e;
-        }
-        rest = transitions::without_lowest(rest);
-    }
-    DueSoon { set, next }
-}
-
 // The same, where none of them is due before the tick soon.
-pub fn due_from(ends: &[u64; 64], timers: u64, soon: u64, tick: u64) -> DueSoon
+pub fn due_by(ends: &[u64; 64], timers: u64, soon: u64, tick: u64) -> DueTimers
     requires { ⌜ ((t : ℕ) → has timers t ≡ true → soon ≤ getD (now ends) t 0) ⌝ }
     ensures { λ r. ⌜
         (r .set ≡ those 64 timers (λ t. eqb (getD (now (ends .entry)) t 0) tick))
-        × ((t : ℕ) → has timers t ≡ true → (getD (now (ends .entry)) t 0 ≡ tick) ⊎ (r .next ≤ getD (now (ends .entry)) t 0)) ⌝ }
+        × (r .number ≡ dueNumber (members 64 timers) (r .set)) ⌝ }
 {
     if tick < soon {
-        return DueSoon { set: 0, next: soon };
+        return DueTimers { set: 0, number: 0 };
     }
-    due_soon(ends, timers, tick)
+    due(ends, timers, tick)
+}
+
+// A tick before which no timer of a set is due.
+pub fn soonest(ends: &[u64; 64], timers: u64) -> u64
+    ensures { λ r. ⌜ ((t : ℕ) → has timers t ≡ true → r ≤ getD (now (ends .entry)) t 0) ⌝ }
+{
+    let mut soon = 0xffff_ffff_ffff_ffffu64;
+    let mut rest = timers;
+    while rest != 0 {
+        let e = ends[transitions::lowest(rest)];
+        if e < soon {
+            soon = e;
+        }
+        rest = transitions::without_lowest(rest);
+    }
+    soon
+}
+
+// The same after a tick, by such a tick before it.
+pub fn soon_after(ends: &[u64; 64], timers: u64, soon: u64, tick: u64) -> u64
+    requires { ⌜ ((t : ℕ) → has timers t ≡ true → soon ≤ getD (now ends) t 0) ⌝ }
+    ensures { λ r. ⌜ ((t : ℕ) → has timers t ≡ true → r ≤ getD (now (ends .entry)) t 0) ⌝ }
+{
+    if soon <= tick {
+        return soonest(ends, timers);
+    }
+    soon
+}
+
+// A tick that is not after soon and before which no timer of a set is due; 0 where some were due.
+pub fn soon_with(ends: &[u64; 64], set: u64, due: u64, soon: u64) -> u64
+    ensures { λ r. ⌜ (r ≤ soon) × ((t : ℕ) → has set t ≡ true → r ≤ getD (now (ends .entry)) t 0) ⌝ }
+{
+    if due != 0 {
+        return 0;
+    }
+    let first = soonest(ends, set);
+    if first < soon {
+        return first;
+    }
+    soon
 }
 
 // The timers of a set start at their delays in a tick.

@@ -54,6 +54,13 @@ pub someIn-same : (w a : ℕ) (p q : ℕ → Bool) → ((i : ℕ) → i < w → 
 unfolding someIn
 someIn-same w a p q e = some-same w (λ i. has a i && p i) (λ i. has a i && q i) (λ i l. ap (λ (b : Bool). has a i && b) (e i l))
 
+-- tests that agree at the members say the same of them
+pub everyIn-same : (w a : ℕ) (p q : ℕ → Bool) → ((i : ℕ) → i < w → T (has a i) → p i ≡ q i) → everyIn w a p ≡ everyIn w a q
+everyIn-same w a p q e =
+    bool-ext (everyIn w a p) (everyIn w a q)
+    (λ h. everyIn-i w a q (λ i l m. subst T (e i l m) (everyIn-e w a p h i l m)))
+    (λ h. everyIn-i w a p (λ i l m. subst T (sym (e i l m)) (everyIn-e w a q h i l m)))
+
 -- two members, one of each set, in either order
 pub someIn-swap : (v w a b : ℕ) (r : ℕ → ℕ → Bool) → someIn v a (λ t. someIn w b (r t)) ≡ someIn w b (λ u. someIn v a (λ t. r t u))
 someIn-swap v w a b r = bool-ext (someIn v a (λ t. someIn w b (r t))) (someIn w b (λ u. someIn v a (λ t. r t u))) (go v w a b r) (go w v b a (λ u t. r t u))

@@ -19,6 +19,7 @@ ghost use Rattle.reaction.specs.Plan.{Planned, sourcesIn, timerDelay};
 ghost use Rattle.reaction.specs.Rounds.{tickOf, startSets, roundsBy, StartOf, Begun};
 ghost use Rattle.reaction.specs.Causes.{firedBy};
 ghost use Rattle.run.specs.States.{stateOf};
+ghost use Rattle.run.specs.Entries.{limitsBy};
 ghost use Rattle.run.specs.Counts.{totalOf};
 ghost use Rattle.run.specs.Runs.{endedRun};
 ghost use Rattle.simulator.specs.Runs.{ranOf};
@@ -42,12 +43,16 @@ use reaction::tick::start_of;
 use rows::Five;
 use rows::put_five;
 use rows::put_zeros;
+use run::ages::age_limits;
+use run::ages::enter_by_words;
+use run::ages::note_entries;
 use run::counts::Rounds;
 use run::counts::Ticks;
 use run::counts::with_rounds;
 use run::deadlines::deadlines;
-use run::deadlines::due_from;
+use run::deadlines::due_by;
 use run::deadlines::restart;
+use run::deadlines::soon_after;
 use run::state::State;
 use run::state::state_at;
 use sets::modes;
@@ -62,15 +67,33 @@ pub struct Ran {
     pub refusal: Refusal,
 }
 
-// A run that ends after some ticks, in the mode set x with these timers running; no deadline of theirs is past.
-fn ended(ends: &[u64; 64], x: u32, timers: u64, done: usize, total: Rounds, why: Refusal) -> Ran
-    requires { ⌜ ((t : ℕ) → has timers t ≡ true → done ≤ getD (now ends) t 0) ⌝ }
+// A run that ends after some ticks, in the mode set x with these timers running; no deadline of theirs is past. The modes of `seen`
+// were last entered as the words of the ticks say; none of x is yet to be entered.
+fn ended(
+    ends: &[u64; 64],
+    limits: &mut [u64; 32],
+    out: &[u32],
+    seen: u32,
+    x: u32,
+    timers: u64,
+    done: usize,
+    total: Rounds,
+    why: Refusal,
+) -> Ran
+    requires { ⌜
+        ((t : ℕ) → has timers t ≡ true → done ≤ getD (now ends) t 0)
+        × ((m : ℕ) → has x m ≡ true → getD (limitsBy (now limits) (now out) seen done) m 0 ≤ done + 65535)
+        × (length (now limits) ≡ 32)
+        × (5 * done ≤ length (now out)) ⌝ }
     ensures { λ r. ⌜
-        ((out : List ℕ) →
-        ranOf r out ≡ endedRun (now (ends .entry)) x timers done (totalOf total) (numberOf why) out)
+        ((words : List ℕ) →
+        ranOf r words
+        ≡ endedRun (now (ends .entry)) (limitsBy (now (limits .entry)) (now (out .entry)) seen done)
+        x x timers done (totalOf total) (numberOf why) words)
         × (r .rounds .1 ≡ total .1) ⌝ }
 {
-    let state = state_at(ends, x, timers, done as u64);
+    enter_by_words(out, limits, seen, done);
+    let state = state_at(ends, limits, x, x, timers, done as u64);
     Ran {
         done: Ticks(done),
         rounds: total,
@@ -202,7 +225,10 @@ fn ticks(
     let timers = plan[TIMERS];
     let k = event_count(sheet);
     let readings = start.readings;
+    let ages = start.ages;
     let mut ends = deadlines(readings);
+    let mut limits = age_limits(ages);
+    let mut seen = 0u32;
     let mut x = start.at;
     let mut live = from_set(sheet, plan, x);
     let power_on = start_of(sheet, plan, 0);
@@ -211,33 +237,56 @@ fn ticks(
     let mut i = 0;
     while i < inputs.len() {
         let input = inputs[i];
+        let running = live & timers;
         if input >> k != 0 {
-            return ended(&ends, x, live & timers, i, total, Refusal::InputSet);
+            return ended(
+                &ends,
+                &mut limits,
+                out,
+                seen,
+                x,
+                running,
+                i,
+                total,
+                Refusal::InputSet,
+            );
         }
         let now = i + 1;
-        let d = due_from(&ends, live & timers, soon, now as u64);
+        let d = due_by(&ends, running, soon, now as u64);
         let from = start_from(sheet, plan, power_on, x, live);
         let first = first_triggered(sheet, plan, from, d.set, input);
         if first == 0 && x != 0 {
             put_quiet(out, numbers, i, x);
-            soon = d.next;
+            soon = soon_after(&ends, running, soon, now as u64);
         } else {
             let o = rounds(sheet, plan, from.begun, from.entered, first, input);
             let why = o.refusal;
             if number(why) != 0 {
-                return ended(&ends, x, live & timers, i, total, why);
+                return ended(&ends, &mut limits, out, seen, x, running, i, total, why);
             }
             let left = left_by(sheet, plan, x, live, o);
             restart(delays, &mut ends, left.starts, now as u64);
             put_tick(sheet, plan, from, first, input, o, out, numbers, i);
             total = with_rounds(total, o.rounds);
+            let entered = transitions::low(o.changed);
+            seen = note_entries(&mut limits, seen, x, o.modes, entered, i);
             x = o.modes;
             live = left.live;
             soon = 0;
         }
         i = now;
     }
-    ended(&ends, x, live & timers, i, total, Refusal::Nothing)
+    ended(
+        &ends,
+        &mut limits,
+        out,
+        seen,
+        x,
+        live & timers,
+        i,
+        total,
+        Refusal::Nothing,
+    )
 }
 
 // A run that stops before any tick.

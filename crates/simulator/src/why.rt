@@ -24,7 +24,7 @@ use reaction::tick::triggered;
 use reaction::why::Why;
 use reaction::why::reason;
 use run::deadlines::deadlines;
-use run::deadlines::due_soon;
+use run::deadlines::due;
 use run::state::State;
 use sheet::words::event_count;
 use sheet::words::transition_count;
@@ -42,7 +42,7 @@ fn tick_report(sheet: &[u32], plan: &Plan, state: State, input: u32, t: usize) -
     let readings = state.readings;
     let ends = deadlines(readings);
     let timers = running(sheet, plan, state.at);
-    let due = due_soon(&ends, timers, 1);
+    let due = due(&ends, timers, 1);
     let b = start_of(sheet, plan, state.at);
     // As `first_triggered`, which is compiled into the loop of the sheet run while nothing but that and a cell's tick calls it.
     let sure = b.live & (due.set | hits(sheet, plan, input));

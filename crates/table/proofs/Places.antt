@@ -1,6 +1,6 @@
--- What the head and the pairs say once they have passed: every word that the code looks at is there. And a block's timers, as they are read.
+-- What the head and the pairs say once they have passed: every word that the code looks at is there. And a block's mask and timers, as they are read.
 -- Assumes nothing.
-use mathlib.Core.Path.{_≡_, refl}
+use mathlib.Core.Path.{_≡_, refl, ap}
 use mathlib.Core.Bool.{and-true}
 use mathlib.Core.List.{List}
 use Prim.Native.Nat.{ℕ, suc, _+_, _*_, _^_, _≤_, _<_}
@@ -8,13 +8,13 @@ use native.Mathlib.Nat.{le-refl, le-trans, le-of-eq}
 use native.Mathlib.Numerals.{add-one}
 use native.Mathlib.Omega.{arith}
 use lib.Dec.{T, eqb, leb, eqb→eq, leb→le}
-use lib.ListN.{length}
+use lib.ListN.{length, getD}
 use borrow.Author.Tests.{le-leb, eq-eqb}
 use Rattle.sets.specs.Sets.{every}
 use Rattle.sets.proofs.Tests.{and-l, and-r}
 use Rattle.sets.proofs.Facts.{every-e}
 use Rattle.meaning.specs.Lists.{allOf}
-use Rattle.meaning.specs.Table.{wordIn, kIn, tIn, bIn, offsetIn, lengthIn, endBeforeIn, timersIn}
+use Rattle.meaning.specs.Table.{wordIn, kIn, tIn, bIn, offsetIn, lengthIn, endBeforeIn, maskIn, timersIn}
 use Rattle.meaning.proofs.ListLaws.{allOf-e, steps-le}
 use Rattle.table.specs.Parts.{tableHeadOk, tablePairsOk}
 
@@ -61,7 +61,11 @@ pub end-after : (w : List ℕ) (b : ℕ) → endBeforeIn w (b + 1) ≡ offsetIn 
 unfolding endBeforeIn
 end-after w b = rw add-one
 
--- ---- a block's timers, read as two words after its offset
+-- ---- a block's mask, the word at its offset, and its timers, read as two words after it
+
+pub mask-read : (w : List ℕ) (b : ℕ) {i : ℕ} → i ≡ offsetIn w b → getD w i 0 ≡ maskIn w b
+unfolding maskIn wordIn
+mask-read w b e = ap (λ (j : ℕ). getD w j 0) e
 
 pub timers-read : (w : List ℕ) (b : ℕ) {at r : ℕ} → at ≡ offsetIn w b → r ≡ wordIn w (at + 2) * 2 ^ 32 + wordIn w (at + 1) → r ≡ timersIn w b
 unfolding timersIn

@@ -1,14 +1,12 @@
 -- `native::modechart_sheet_run` meets its contract: too few words lent, or what the sheet run returns. Assumes nothing.
-use mathlib.Core.Path.{refl, _∙_}
+use mathlib.Core.Path.{refl}
 use mathlib.Core.Logic.{inl, inr, ⊎-elim}
-use mathlib.Core.List.{[], _∷_}
 use native.Mathlib.Omega.{arith}
 use lib.ListN.{length, length-set}
 use borrow.Author.Tests.{ltb-false}
 use borrow.Author.Needs.{needs}
-use Rattle.run.specs.States.{stateOf}
+use Rattle.run.specs.States.{stateWords, stateOf}
 use Rattle.simulator.specs.Runs.{ranOf}
-use Rattle.native.specs.Calls.{sheetCall}
 use Rattle.native.proofs.CallLaws.{sheet-nothing, sheet-answered}
 use Rattle.native.proofs.modechart_sheet_run.Statement.{statement}
 use Rattle.native.proofs.modechart_sheet_run.Tie as tie
@@ -39,7 +37,7 @@ returns-2 c =
     let a = entry (lent at) .args in
     let r = at .run .result in
     sheet-answered (a .sheet .now) (a .state .now) (a .inputs .now) (a .out .now) (a .numbers .now) (a .info .now) (lent at .before .if1 .left)
-    (ltb-false (length (a .state .now)) 65 (lent at .if2 .left))
+    (ltb-false (length (a .state .now)) stateWords (lent at .if2 .left))
     (record { run = ranOf r (at .run .last .1 .1 .1 .0); numbers = at .run .last .1 .1 .1 .1 .0 }) (stateOf (read at .from-words .result)) (read at .from-words .ensures)
     (at .run .ensures .0) (r .rounds .0) (r .rounds .1) refl (at .run .ensures .2) (c .number .result) (put .put-state .last .0) (c .number .ensures) (put .put-state .ensures)
 

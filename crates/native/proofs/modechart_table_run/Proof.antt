@@ -5,7 +5,7 @@ use mathlib.Core.List.{[], _∷_}
 use lib.ListN.{length}
 use borrow.Author.Tests.{ltb-false}
 use borrow.Author.Needs.{needs}
-use Rattle.run.specs.States.{stateOf}
+use Rattle.run.specs.States.{stateWords, stateOf}
 use Rattle.recorder.specs.Runs.{ranOf}
 use Rattle.native.specs.Calls.{tableCall}
 use Rattle.native.proofs.CallLaws.{run-nothing, run-answered, table-call}
@@ -36,7 +36,7 @@ returns-2 c =
     let r = at .run .result in
     let o = ranOf r (at .run .last .1 .1 .1 .0) in
     run-answered o (o .done ∷ []) (a .state .now) (a .out .now) (a .info .now) (lent at .before .if1 .left)
-    (ltb-false (length (a .state .now)) 65 (lent at .if2 .left)) (c .number .result) (put .put-state .last .0) (c .number .ensures) (put .put-state .ensures)
+    (ltb-false (length (a .state .now)) stateWords (lent at .if2 .left)) (c .number .result) (put .put-state .last .0) (c .number .ensures) (put .put-state .ensures)
     ∙ table-call (a .table .now) (a .state .now) (a .inputs .now) (a .out .now) (a .info .now) o (stateOf (read at .from-words .result)) (read at .from-words .ensures) (at .run .ensures)
 
 pub modechart-table-run-spec : {M : Type 1} → statement M

@@ -10,6 +10,7 @@ use Rattle.meaning.specs.Lists.{overwritten}
 use Rattle.meaning.specs.Why.{refusalOf, reasonWords}
 use Rattle.reaction.specs.Reasons.{reportOf}
 use Rattle.reaction.specs.declared.why.Why.{Why}
+use Rattle.run.specs.States.{stateWords}
 use Rattle.native.specs.Calls.{whyCall}
 use Rattle.native.proofs.CallLaws.{why-nothing, why-answered}
 use Rattle.native.proofs.modechart_why.Statement.{statement}
@@ -32,7 +33,7 @@ answered : (c : tie.After-why) {w : Why} {answer : ℕ} {words : List ℕ} → c
 answered c e a w =
     let lent = c .before .before in
     let b = entry c .args in
-    why-answered (b .sheet .now) (b .state .now) (b .input) (b .transition) (b .info .now) (lent .before .if1 .left) (ltb-false (length (b .state .now)) 65 (lent .if2 .left))
+    why-answered (b .sheet .now) (b .state .now) (b .input) (b .transition) (b .info .now) (lent .before .if1 .left) (ltb-false (length (b .state .now)) stateWords (lent .if2 .left))
     (c .before .from-words .ensures) (ap reportOf (sym e) ∙ c .why .ensures) a w
 
 returns-2 : tie.Need-returns-2

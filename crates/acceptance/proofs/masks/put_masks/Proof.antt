@@ -10,7 +10,7 @@ use Rattle.meaning.specs.Table.{bIn, maskIn}
 use Rattle.table.proofs.LayoutFacts.{head-sound, length-is, block-inside}
 use Rattle.rows.specs.Over.{over}
 use Rattle.cells.proofs.WordRowLaws.{words-turn, words-end}
-use Rattle.acceptance.proofs.MaskLaws.{mask-read}
+use Rattle.table.proofs.Places.{mask-read}
 use Rattle.acceptance.proofs.masks.put_masks.Statement.{statement}
 use Rattle.acceptance.proofs.masks.put_masks.Tie as tie
 

@@ -9,7 +9,7 @@ use Rattle.case_text.proofs.parts.read_pairs.Statement.{statement}
 use Rattle.case_text.proofs.parts.read_pairs.Tie as tie
 
 abbrev Inv-loop : tie.InvT-loop
-Inv-loop buf₀ at pairs words₀ input₀ i₀ buf words input i = (i ≤ pairs) × (length words ≡ 65)
+Inv-loop buf₀ at pairs words₀ input₀ i₀ buf words input i = (i ≤ pairs) × (length words ≡ 97)
 
 abbrev μ-loop : tie.MeasureT-loop
 μ-loop buf₀ at pairs words₀ input₀ i₀ buf words input i = pairs - i

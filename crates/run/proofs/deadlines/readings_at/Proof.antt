@@ -23,7 +23,7 @@ readingAt ends tick t = (getD ends t 0 - tick) % 2 ^ 32
 abbrev Inv-loop : tie.InvT-loop
 Inv-loop ends timers tick r₀ rest₀ r rest =
     (rest < 2 ^ 64) × Subset rest timers × (length r ≡ 64)
-    × (filled (readingAt ends tick) r rest ≡ rowFrom 0 64 (λ t. cond (has timers t) (readingAt ends tick t) 0))
+    × (filled 64 (readingAt ends tick) r rest ≡ rowFrom 0 64 (λ t. cond (has timers t) (readingAt ends tick t) 0))
 
 abbrev μ-loop : tie.MeasureT-loop
 μ-loop ends timers tick r₀ rest₀ r rest = rest
@@ -31,7 +31,7 @@ abbrev μ-loop : tie.MeasureT-loop
 loop-holds : tie.Need-loop-holds Inv-loop μ-loop
 loop-holds c =
     let a = c .args in
-    (c .fits .timers .fits, λ i h. h, search needs, filled-none (readingAt (a .ends .now) (a .tick)) (a .timers))
+    (c .fits .timers .fits, λ i h. h, search needs, filled-none 64 (readingAt (a .ends .now) (a .tick)) (a .timers))
 
 known : (c : tie.After-lowest Inv-loop μ-loop) {r : ℕ} → r ≡ minus (c .before .before .loop .rest) (single (lowest 64 (c .before .before .loop .rest)))
     → Turn 64 (c .before .before .loop .rest) (c .lowest .result) r
@@ -75,14 +75,14 @@ loop-again c =
       u .fits,
       subset-turn (a .timers) u (l .inv .1),
       simp length-set (l .inv .2),
-      filled-turn (readingAt (a .ends .now) (a .tick)) (l .r) u (l .inv .2) ∙ l .inv .3,
+      filled-turn 64 (readingAt (a .ends .now) (a .tick)) (l .r) u (l .inv .2) ∙ l .inv .3,
     )
 
 returns : tie.Need-returns Inv-loop μ-loop
 returns c =
     let l = c .before .loop in
     let a = c .before .before .args in
-    filled-done (readingAt (a .ends .now) (a .tick)) (l .r) (l .rest) (c .loop-test .left) (l .inv .2) ∙ l .inv .3
+    filled-done 64 (readingAt (a .ends .now) (a .tick)) (l .r) (l .rest) (c .loop-test .left) (l .inv .2) ∙ l .inv .3
 
 pub readings-at-spec : {M : Type 1} → statement M
 readings-at-spec =

@@ -17,7 +17,7 @@ abbrev deadline : List ℕ → ℕ → ℕ → ℕ
 deadline delays tick t = tick + getD delays t 0
 
 abbrev Inv-loop : tie.InvT-loop
-Inv-loop delays ends₀ set tick rest₀ ends rest = (rest < 2 ^ 64) × (length ends ≡ 64) × (filled (deadline delays tick) ends rest ≡ filled (deadline delays tick) ends₀ set)
+Inv-loop delays ends₀ set tick rest₀ ends rest = (rest < 2 ^ 64) × (length ends ≡ 64) × (filled 64 (deadline delays tick) ends rest ≡ filled 64 (deadline delays tick) ends₀ set)
 
 abbrev μ-loop : tie.MeasureT-loop
 μ-loop delays ends₀ set tick rest₀ ends rest = rest
@@ -60,14 +60,14 @@ loop-again c =
     let a = c .before .before .before .before .before .args in (
       u .fits,
       simp length-set (l .inv .1),
-      filled-turn (deadline (a .delays .now) (a .tick)) (l .ends) u (l .inv .1) ∙ l .inv .2,
+      filled-turn 64 (deadline (a .delays .now) (a .tick)) (l .ends) u (l .inv .1) ∙ l .inv .2,
     )
 
 returns : tie.Need-returns Inv-loop μ-loop
 returns c =
     let l = c .before .loop in
     let a = c .before .before .args in
-    filled-done (deadline (a .delays .now) (a .tick)) (l .ends) (l .rest) (c .loop-test .left) (l .inv .1) ∙ l .inv .2
+    filled-done 64 (deadline (a .delays .now) (a .tick)) (l .ends) (l .rest) (c .loop-test .left) (l .inv .1) ∙ l .inv .2
 
 pub restart-spec : {M : Type 1} → statement M
 restart-spec =

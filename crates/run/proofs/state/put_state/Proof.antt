@@ -1,79 +1,66 @@
--- `run::state::put_state` meets its contract: the readings passed are put after the first word. Assumes nothing.
-use mathlib.Core.Path.{_≡_, refl, ap, _∙_}
-use borrow.Author.Needs.{needs}
-use Prim.Native.Nat.{ℕ, _+_, _-_, _≤_}
-use native.Mathlib.Omega.{arith}
+-- `run::state::put_state` meets its contract: the first word, the readings, the ages. Assumes nothing.
+use mathlib.Core.Path.{_≡_, ap, _∙_}
 use mathlib.Core.List.{List}
-use lib.ListN.{length, getD, set, length-set}
-use lib.Seq.{paste, paste-zero}
+use borrow.Author.Needs.{needs}
+use Prim.Native.Nat.{ℕ}
+use native.Mathlib.Omega.{arith}
+use lib.ListN.{length, length-set}
+use Rattle.rows.specs.Over.{over}
 use Rattle.run.specs.States.{wordsOf}
-use Rattle.run.proofs.StateWords.{put-turn, put-all}
+use Rattle.run.proofs.StateWords.{state-put}
 use Rattle.run.proofs.state.put_state.Statement.{statement}
 use Rattle.run.proofs.state.put_state.Tie as tie
 
-abbrev Inv-loop : tie.InvT-loop
-Inv-loop words₀ readings t₀ words t = (t ≤ 64) × (length readings ≡ 64) × (65 ≤ length words₀) × (length words ≡ length words₀) × (words ≡ paste words₀ 1 readings t)
+-- the entry; from the first and the second call
+abbrev before-first : tie.After-put-words → tie.Start
+before-first c = c .before .before .before .before .before .before
 
-abbrev μ-loop : tie.MeasureT-loop
-μ-loop words₀ readings t₀ words t = 64 - t
+abbrev before-second : tie.After-put-words2 → tie.Start
+before-second c = before-first (c .before .before .before .before .before)
 
-slice-write-words : tie.Need-slice-write-words Inv-loop μ-loop
+readings-long : (c : tie.Start) → length (c .args .state .readings) ≡ 64
+readings-long c = search needs
+
+ages-long : (c : tie.Start) → length (c .args .state .ages) ≡ 32
+ages-long c = search needs
+
+slice-write-words : tie.Need-slice-write-words
 slice-write-words c = search needs
 
-loop-holds : tie.Need-loop-holds Inv-loop μ-loop
-loop-holds c =
-    let a = c .before .args in
-    let w = set (a .words .now) 0 (a .state .at) in
-    (omega arith, search needs, omega (arith, length-set (a .words .now) 0 (a .state .at)), refl, paste-zero w 1 (a .state .readings))
+slice-aggregate-put-words : tie.Need-slice-aggregate-put-words
+slice-aggregate-put-words c = search needs
 
-mul-words : tie.Need-mul-words Inv-loop μ-loop
-mul-words c = search needs
+put-words-requires : tie.Need-put-words-requires
+put-words-requires c κs =
+    let s = c .before .before .before .before .before in
+    omega (arith, s .pre, readings-long s, length-set (s .args .words .now) 0 (s .args .state .at))
 
-array-read-words : tie.Need-array-read-words Inv-loop μ-loop
-array-read-words c = search needs
+slice-aggregate-put-words-2 : tie.Need-slice-aggregate-put-words-2
+slice-aggregate-put-words-2 c = search needs
 
-add-words : tie.Need-add-words Inv-loop μ-loop
-add-words c = search needs
+put-words-requires-2 : tie.Need-put-words-requires-2
+put-words-requires-2 c κs =
+    let first = c .before .before .before .before in
+    let s = before-first first in
+    omega (arith, s .pre, ages-long s, first .put-words .kept .0, length-set (s .args .words .now) 0 (s .args .state .at))
 
-mul-words-2 : tie.Need-mul-words-2 Inv-loop μ-loop
-mul-words-2 c = search needs
-
-slice-write-words-2 : tie.Need-slice-write-words-2 Inv-loop μ-loop
-slice-write-words-2 c = search needs
-
-add-t : tie.Need-add-t Inv-loop μ-loop
-add-t c = search needs
-
-loop-less : tie.Need-loop-less Inv-loop μ-loop
-loop-less c = search needs
-
-loop-again : tie.Need-loop-again Inv-loop μ-loop
-loop-again c =
-    let l = c .before .loop in
-    let a = c .before .before .before .args in (
-      omega arith,
-      l .inv .1,
-      l .inv .2,
-      length-set (l .words) (1 + l .t) (getD (a .state .readings) (l .t) 0) ∙ l .inv .3,
-      ap (λ (v : List ℕ). set v (1 + l .t) (getD (a .state .readings) (l .t) 0)) (l .inv .4)
-          ∙ put-turn (a .words .now) (a .state .at) (a .state .readings) (l .t) (omega (arith, length-set (a .words .now) 0 (a .state .at))) (omega arith),
-    )
-
-same-length : tie.Need-same-length Inv-loop μ-loop
+same-length : tie.Need-same-length
 same-length c =
-    let a = c .before .before .before .args in
-    omega (arith, c .before .loop .inv .3, length-set (a .words .now) 0 (a .state .at))
+    let second = c .before .before in
+    let s = before-second second in
+    omega (arith, second .put-words2 .kept .0, second .before .before .before .before .before .put-words .kept .0, length-set (s .args .words .now) 0 (s .args .state .at))
 
-returns : tie.Need-returns Inv-loop μ-loop
+returns : tie.Need-returns
 unfolding wordsOf
 returns c =
-    let l = c .before .loop in
-    let a = c .before .before .before .args in
-    l .inv .4
-    ∙ put-all (a .words .now) (a .state .at) (a .state .readings) (l .t) (omega arith) (omega (arith, length-set (a .words .now) 0 (a .state .at)))
+    let s = before-second (c .before .before) in
+    let a = s .args in
+    c .before .before .put-words2 .ensures
+    ∙ ap (λ (l : List ℕ). over l 65 (a .state .ages)) (c .before .before .before .before .before .before .before .put-words .ensures)
+    ∙ state-put (a .words .now) (a .state .at) (a .state .readings) (a .state .ages) (readings-long s) (ages-long s) (s .pre)
 
 pub put-state-spec : {M : Type 1} → statement M
 put-state-spec =
     tie.close
-    (tie.spec Inv-loop μ-loop slice-write-words loop-holds mul-words array-read-words add-words mul-words-2
-    slice-write-words-2 add-t loop-less loop-again same-length returns)
+    (tie.spec slice-write-words slice-aggregate-put-words put-words-requires slice-aggregate-put-words-2
+    put-words-requires-2 same-length returns)

@@ -1,52 +1,55 @@
--- `simulator::state::state_ok` meets its contract: at power-on no timer runs, so the readings alone decide; else the set
--- does first. Assumes nothing.
-use mathlib.Core.Path.{ap, _∙_}
-use mathlib.Core.Logic.{⊎-elim}
+-- `simulator::state::state_ok` meets its contract: each test is a part of `stateOk`, in its order. Assumes nothing.
 use borrow.Author.Needs.{needs}
-use Prim.Native.Nat.{ℕ}
-use lib.ListN.{getD}
 use Rattle.sets.proofs.Loops.{passed, failed}
-use Rattle.meaning.specs.Run.{readingsOk}
+use Rattle.sets.proofs.Tests.{of-true}
+use Rattle.meaning.proofs.TickLaws.{running-e}
 use Rattle.run.specs.States.{stateOf}
-use Rattle.simulator.proofs.SheetStateLaws.{state-inconsistent, state-fresh, state-consistent}
+use Rattle.simulator.proofs.SheetStateLaws.{state-untimed, state-unaged, state-summed}
 use Rattle.simulator.proofs.state.state_ok.Statement.{statement}
 use Rattle.simulator.proofs.state.state_ok.Tie as tie
 
--- the function's entry, from where the set is tested; that place from the end
-abbrev entry : tie.After-struct-known → tie.Start
+-- the function's entry, from where the readings are tested; that place from where the ages are
+abbrev entry : tie.After-timers-ok → tie.Start
 entry c = c .before .before
 
-abbrev tested : tie.After-readings-ok → tie.Joined1
-tested c = c .before .before .before .before
+abbrev timed : tie.After-ages-ok → tie.Else1
+timed c = c .before .before .before .before
 
-is-consistent-requires : tie.Need-is-consistent-requires
-is-consistent-requires c κs = search needs
+timers-ok-requires : tie.Need-timers-ok-requires
+timers-ok-requires c κs = search needs
 
 returns : tie.Need-returns
 returns c =
-    let set = c .before .before in
-    let a = entry (set .before) .args in
-    state-inconsistent (a .sheet .now) (stateOf (a .state)) (set .if1 .taken) (failed (c .before .is-consistent .ensures) (c .if2 .taken))
+    let a = entry (c .before) .args in
+    state-untimed (a .sheet .now) (stateOf (a .state)) (failed (c .before .timers-ok .ensures) (c .if1 .taken))
+
+ages-ok-requires : tie.Need-ages-ok-requires
+ages-ok-requires c κs = search needs
+
+returns-2 : tie.Need-returns-2
+returns-2 c =
+    let a = entry (timed (c .before) .before) .args in
+    state-unaged (a .sheet .now) (stateOf (a .state)) (failed (c .before .ages-ok .ensures) (c .if2 .taken))
 
 running-requires : tie.Need-running-requires
 running-requires c κs = search needs
 
-readings-ok-requires : tie.Need-readings-ok-requires
-readings-ok-requires c κs = search needs
+sums-ok-requires : tie.Need-sums-ok-requires
+sums-ok-requires c κs =
+    let r = c .before .before in
+    let s = entry (timed (r .before .before) .before) in
+    (s .pre .0 .passes, λ t h. running-e (s .args .sheet .now) (s .args .state .at) t (of-true (rw (r .running .ensures) at h)) .small)
 
-returns-2 : tie.Need-returns-2
-returns-2 c =
-    let s = entry (tested c .before) in
-    let a = s .args in
-    let q = stateOf (a .state) in
-    c .readings-ok .ensures
-    ∙ ap (λ (y : ℕ). readingsOk y (λ t. getD (a .delays .now) t 0) (q .readings)) (c .before .before .running .ensures)
-    ∙ ⊎-elim
-    (λ w. state-consistent (a .sheet .now) q (s .pre .1) (w .0 .taken) (passed (w .1 .ensures) (w .2 .left)))
-    (λ w. state-fresh (a .sheet .now) q (s .pre .1) (w .left))
-    (tested c .if1 .came)
+returns-3 : tie.Need-returns-3
+returns-3 c =
+    let r = c .before .before .before in
+    let aged = r .before in
+    let t = timed (aged .before) in
+    let s = entry (t .before) in
+    state-summed (s .args .sheet .now) (stateOf (s .args .state)) (s .pre .1) (r .running .ensures) (passed (t .before .timers-ok .ensures) (t .if1 .left))
+    (passed (aged .before .ages-ok .ensures) (aged .if2 .left)) (c .sums-ok .ensures)
 
 pub state-ok-spec : {M : Type 1} → statement M
 state-ok-spec =
     tie.close
-    (tie.spec is-consistent-requires returns running-requires readings-ok-requires returns-2)
+    (tie.spec timers-ok-requires returns ages-ok-requires returns-2 running-requires sums-ok-requires returns-3)

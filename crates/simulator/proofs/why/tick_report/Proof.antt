@@ -15,8 +15,8 @@ deadlines-requires c κs = search needs
 running-requires : tie.Need-running-requires
 running-requires c κs = search needs
 
-due-soon-requires : tie.Need-due-soon-requires
-due-soon-requires c κs = search needs
+due-requires : tie.Need-due-requires
+due-requires c κs = search needs
 
 start-of-requires : tie.Need-start-of-requires
 start-of-requires c κs = search needs
@@ -26,13 +26,13 @@ module _ (c : tie.After-start-of) where
   abbrev entry : tie.Start
   entry = c .before .before .before .before .before .before .before
 
-  abbrev due : tie.After-due-soon
+  abbrev due : tie.After-due
   due = c .before
 
-  known : Before (entry .args .sheet .now) (c .start-of .result) (due .due-soon .result .set)
+  known : Before (entry .args .sheet .now) (c .start-of .result) (due .due .result .set)
   known =
       begins (entry .args .sheet .now) (entry .pre .0 .passes) (stateOf (entry .args .state)) (entry .pre .1) (due .before .before .before .deadlines .ensures)
-      (due .before .before .running .ensures) (due .due-soon .ensures .0) (c .start-of .ensures)
+      (due .before .before .running .ensures) (due .due .ensures .0) (c .start-of .ensures)
 
 -- back from what is triggered first to the tick's start
 abbrev start : tie.After-triggered → tie.After-start-of
@@ -41,7 +41,7 @@ start c = c .before .before .before .before
 first-is : (c : tie.After-triggered)
     → let g = start c in
     let a = entry g .args in
-    c .triggered .result ≡ triggered (a .sheet .now) (due g .due-soon .result .set) (a .input) (startSets (g .start-of .result))
+    c .triggered .result ≡ triggered (a .sheet .now) (due g .due .result .set) (a .input) (startSets (g .start-of .result))
 first-is c =
     let g = start c in
     let b = entry g in
@@ -68,7 +68,7 @@ returns c =
     let g = start f in
     let b = entry g in
     report-refused _ (b .pre .0 .passes) _ (b .pre .1) (due g .before .before .before .deadlines .ensures) (due g .before .before .running .ensures)
-    (due g .due-soon .ensures .0) (b .pre .3) (b .pre .2) (g .start-of .ensures) (first-is f) (o .rounds .ensures) refl
+    (due g .due .ensures .0) (b .pre .3) (b .pre .2) (g .start-of .ensures) (first-is f) (o .rounds .ensures) refl
     (λ e. c .if1 .taken (c .before .number .ensures ∙ e))
 
 reason-requires : tie.Need-reason-requires
@@ -87,7 +87,7 @@ returns-2 c =
     let g = start f in
     let b = entry g in
     report-reason _ (b .pre .0 .passes) _ (b .pre .1) (due g .before .before .before .deadlines .ensures) (due g .before .before .running .ensures)
-    (due g .due-soon .ensures .0) (b .pre .3) (b .pre .2) (g .start-of .ensures) (first-is f) (o .rounds .ensures)
+    (due g .due .ensures .0) (b .pre .3) (b .pre .2) (g .start-of .ensures) (first-is f) (o .rounds .ensures)
     (sym (n .number .ensures) ∙ c .before .if1 .left) (c .reason .ensures)
 
 pub tick-report-spec : {M : Type 1} → statement M
@@ -96,7 +96,7 @@ tick-report-spec =
     (tie.spec
     deadlines-requires
     running-requires
-    due-soon-requires
+    due-requires
     start-of-requires
     (λ c κs. search needs)
     triggered-requires

@@ -1,28 +1,27 @@
--- `run::deadlines::due_soon` meets its contract: of the timers passed, those that are due are found, and the others are due at the
--- tick found or later. Assumes nothing.
-use mathlib.Core.Path.{_≡_, refl, ap, _∙_}
+-- `run::deadlines::soonest` meets its contract: the timers passed are due at the tick found or later. Assumes nothing.
+use mathlib.Core.Path.{_≡_, refl}
 use mathlib.Core.Logic.{⊎-elim}
 use borrow.Author.Needs.{needs}
 use Prim.Native.Nat.{ℕ}
 use native.Mathlib.Omega.{arith}
-use Rattle.sets.specs.Sets.{union, minus, single, lowest}
+use Rattle.sets.specs.Sets.{minus, single, lowest}
 use Rattle.sets.proofs.Members.{Turn, turn}
-use Rattle.run.proofs.DueSoonLaws.{FoundSoon, soon-start, soon-due, soon-later, soon-done}
-use Rattle.run.proofs.deadlines.due_soon.Statement.{statement}
-use Rattle.run.proofs.deadlines.due_soon.Tie as tie
+use Rattle.run.proofs.SoonestLaws.{Soonest, soonest-start, soonest-turn, soonest-done}
+use Rattle.run.proofs.deadlines.soonest.Statement.{statement}
+use Rattle.run.proofs.deadlines.soonest.Tie as tie
 
 abbrev Inv-loop : tie.InvT-loop
-Inv-loop ends timers tick set₀ next₀ rest₀ set next rest = FoundSoon timers ends tick set next rest
+Inv-loop ends timers soon₀ rest₀ soon rest = Soonest timers ends soon rest
 
 abbrev μ-loop : tie.MeasureT-loop
-μ-loop ends timers tick set₀ next₀ rest₀ set next rest = rest
+μ-loop ends timers soon₀ rest₀ soon rest = rest
 
 known : (c : tie.After-lowest Inv-loop μ-loop) {r : ℕ} → r ≡ minus (c .before .before .loop .rest) (single (lowest 64 (c .before .before .loop .rest)))
     → Turn 64 (c .before .before .loop .rest) (c .lowest .result) r
 known c e = turn 64 (c .before .before .loop .rest) (c .before .before .loop .inv .fits) (c .before .loop-test .taken) (c .lowest .ensures) e
 
 loop-holds : tie.Need-loop-holds Inv-loop μ-loop
-loop-holds c = soon-start (c .args .timers) (c .args .ends .now) (c .args .tick) (c .fits .timers .fits)
+loop-holds c = soonest-start (c .args .timers) (c .args .ends .now) (c .fits .timers .fits)
 
 lowest-requires : tie.Need-lowest-requires Inv-loop μ-loop
 lowest-requires c κs = search needs
@@ -32,9 +31,6 @@ mul-e c = omega (arith, known c refl .lowest .small)
 
 element-copy-out-e : tie.Need-element-copy-out-e Inv-loop μ-loop
 element-copy-out-e c = omega (arith, known c refl .lowest .small)
-
-single-requires : tie.Need-single-requires Inv-loop μ-loop
-single-requires c κs = known (c .before .before) refl .lowest .small
 
 without-lowest-requires : tie.Need-without-lowest-requires Inv-loop μ-loop
 without-lowest-requires c κs = known (c .before .before) refl .filled
@@ -47,18 +43,17 @@ loop-again c =
     let t = c .before .before .before in
     let l = t .before .before .loop in
     let u = known t (c .without-lowest .ensures) in
-    ⊎-elim (λ w. soon-due _ _ _ (l .inv) u (w .0 .taken) (w .2 ∙ ap (union (l .set)) (w .1 .ensures)) (w .3))
-    (⊎-elim (λ w. soon-later _ _ _ (l .inv) u (w .0 .left) (w .2) (omega (arith, w .3, w .1 .taken)) (omega (arith, w .3)))
-    (λ w. soon-later _ _ _ (l .inv) u (w .0 .left) (w .2) (omega (arith, w .3)) (omega (arith, w .3, w .1 .left))))
+    ⊎-elim (λ w. soonest-turn _ _ (l .inv) u (omega (arith, w .0 .taken, w .1)) (omega (arith, w .1)))
+    (λ w. soonest-turn _ _ (l .inv) u (omega (arith, w .1)) (omega (arith, w .0 .left, w .1)))
     (c .before .if1 .came)
 
 returns : tie.Need-returns Inv-loop μ-loop
 returns c =
     let a = c .before .before .args in
-    soon-done (a .timers) (a .ends .now) (a .tick) (c .before .loop .inv) (c .loop-test .left)
+    soonest-done (a .timers) (a .ends .now) (c .before .loop .inv) (c .loop-test .left)
 
-pub due-soon-spec : {M : Type 1} → statement M
-due-soon-spec =
+pub soonest-spec : {M : Type 1} → statement M
+soonest-spec =
     tie.close
-    (tie.spec Inv-loop μ-loop loop-holds lowest-requires mul-e element-copy-out-e single-requires without-lowest-requires
-    loop-less loop-again returns)
+    (tie.spec Inv-loop μ-loop loop-holds lowest-requires mul-e element-copy-out-e without-lowest-requires loop-less
+    loop-again returns)
