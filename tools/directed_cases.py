@@ -266,6 +266,7 @@ BROKEN = {
 
 # ---------------------------------------------------------------- states
 
+# a mode set or block, readings by transition, and ages by mode where some are not 0
 FRESH = (0, {})
 
 # 1: 2 3, 4: 5 6; transition 3 is a delay of 0, so the modes 4 and 6 are never reached together at the end of a tick
@@ -274,15 +275,16 @@ CLOCKS = sheet(1, regions(2, 2), arrow(2, 3, after(4)), arrow(3, 2, on(0)), arro
 SERIES = sheet(1, NEST, arrow(2, 3, after(4)), arrow(1, 4, on(0)), arrow(4, 1, on(0)), arrow(4, 3, off(0)))
 START = mask(0, 1, 2, 4, 5)
 
-# a name, the refusal, the state as a mode set and readings
+# a name, the refusal, the state; reading plus age of its source is a running timer's delay
 CLOCK_STATES = [
     ("fresh", 0, FRESH),
     ("readings at their delays", 0, (START, {0: 4, 2: 2})),
-    ("readings of 1", 0, (START, {0: 1, 2: 1})),
+    ("readings of 1", 0, (START, {0: 1, 2: 1}, {2: 3, 5: 1})),
     ("a reading of its delay + 1", 14, (START, {0: 5, 2: 2})),
     ("the second timer's reading is its delay + 1", 14, (START, {0: 4, 2: 3})),
-    ("a reading of 0 for a running timer", 14, (START, {2: 2})),
-    ("no reading for either timer", 14, (START, {})),
+    ("a reading of 0 for a running timer", 14, (START, {2: 2}, {2: 4})),
+    ("a reading of 0 for a running timer, its source entered just now", 14, (START, {2: 2})),
+    ("no reading for either timer", 14, (START, {}, {2: 4, 5: 2})),
     ("one timer runs", 0, (mask(0, 1, 3, 4, 5), {2: 2})),
     ("a reading for a timer that does not run", 14, (mask(0, 1, 3, 4, 5), {0: 1, 2: 2})),
     ("a reading for a transition with terms", 14, (mask(0, 1, 3, 4, 5), {1: 1, 2: 2})),
@@ -292,6 +294,7 @@ CLOCK_STATES = [
     ("a reading at 31", 14, (START, {0: 4, 2: 2, 31: 1})),
     ("a reading at 63", 14, (START, {0: 4, 2: 2, 63: 1})),
     ("a reading of 2^32 - 1", 14, (START, {0: TOP, 2: 2})),
+    ("a reading of 2^32 - 1 and an age of 5", 14, (START, {0: TOP, 2: 2}, {2: 5})),
     ("fresh with one reading", 14, (0, {0: 1})),
     ("fresh with a reading at 63", 14, (0, {63: 1})),
     ("a child of the parallel root is missing", 14, (mask(0, 1, 2), {0: 4})),
@@ -863,6 +866,7 @@ def levels_15():
 
 
 AT_START = (START, {0: 4, 2: 2})        # of CLOCKS
+DUE = (mask(0, 2), {1: 1}, {2: 1})      # of EXAMPLE
 PASSING = [GO, arrow(2, 3, taken(0)), arrow(2, 1, entered(3))]
 AGAIN = [arrow(2, 3, on(0)), arrow(1, 4, after(1)), arrow(4, 1, after(0))]
 THREE_LEVELS = [arrow(3, 4, on(0)), arrow(2, 5, on(0)), arrow(1, 6, on(0))]
@@ -880,12 +884,12 @@ REASONS = [
         ("an event that is absent", NEVER_TRIGGERED, FRESH, 0, 0),
         ("taken at power-on", taken_in(1, 1), FRESH, 1, 0),
         ("left by the last round, taken", taken_in(1, 1), (mask(0, 1), {}), 1, 0),
-        ("entered by a due timer, then taken on the event", taken_in(2, 1), (mask(0, 2), {1: 1}), 1, 0),
+        ("entered by a due timer, then taken on the event", taken_in(2, 1), DUE, 1, 0),
         ("reading 2", NEVER_TRIGGERED, (mask(0, 2), {1: 2}), 1, 1),
-        ("reading 1", taken_in(1, 9), (mask(0, 2), {1: 1}), 0, 1),
-        ("a reading of 0", 14, (mask(0, 2), {}), 0, 1),
+        ("reading 1", taken_in(1, 9), DUE, 0, 1),
+        ("a reading of 0", 14, (mask(0, 2), {}, {2: 2}), 0, 1),
         ("a reading of its delay + 1", 14, (mask(0, 2), {1: 3}), 0, 1),
-        ("reading 1, the source of the other is entered", NEVER_TRIGGERED, (mask(0, 2), {1: 1}), 0, 0)]),
+        ("reading 1, the source of the other is entered", NEVER_TRIGGERED, DUE, 0, 0)]),
     (CLOCKS, [
         # the order of the refusals
         ("14 before 16", 14, (START, {0: 5, 2: 2}), 0, 4),
@@ -902,14 +906,15 @@ REASONS = [
         ("fresh: 13", 13, FRESH, 2, 0),
         # readings
         ("a timer at its delay", NEVER_TRIGGERED, AT_START, 0, 0),
-        ("a timer at reading 2", NEVER_TRIGGERED, (START, {0: 2, 2: 1}), 0, 0),
-        ("a timer at reading 1", taken_in(1, 9), (START, {0: 1, 2: 2}), 0, 0),
-        ("the other timer is due", taken_in(1, 9), (START, {0: 2, 2: 1}), 0, 2),
-        ("a delay of 0 that a due timer leads to", taken_in(2, 9), (START, {0: 2, 2: 1}), 0, 3),
+        ("a timer at reading 2", NEVER_TRIGGERED, (START, {0: 2, 2: 1}, {2: 2, 5: 1}), 0, 0),
+        ("a timer at reading 1", taken_in(1, 9), (START, {0: 1, 2: 2}, {2: 3}), 0, 0),
+        ("the other timer is due", taken_in(1, 9), (START, {0: 2, 2: 1}, {2: 2, 5: 1}), 0, 2),
+        ("a delay of 0 that a due timer leads to", taken_in(2, 9), (START, {0: 2, 2: 1}, {2: 2, 5: 1}), 0, 3),
         ("a delay of 0, its source is not active", NEVER_ACTIVE, AT_START, 0, 3),
         ("a delay of 0 from a set that no run reaches", taken_in(1, 9), (mask(0, 1, 2, 4, 6), {0: 4}), 0, 3),
         ("a timer that starts again in this tick", NEVER_TRIGGERED, (mask(0, 1, 2, 4, 6), {0: 4}), 0, 2),
-        ("in one of two regions: entered by a due timer, then taken on the event", taken_in(2, 1), (START, {0: 1, 2: 2}), 1, 1),
+        ("in one of two regions: entered by a due timer, then taken on the event", taken_in(2, 1),
+         (START, {0: 1, 2: 2}, {2: 3}), 1, 1),
         ("a timer at power-on", NEVER_TRIGGERED, FRESH, 0, 0),
         ("not entered at power-on", NEVER_ACTIVE, FRESH, 1, 1)]),
     (sheet(1, TWO), [(f"no transition: {t}", 16, FRESH, 0, t) for t in (0, 1, 63, 64, TOP)]
@@ -1025,10 +1030,10 @@ REASONS = [
         ("the outer source gave way to the inner one", gave_way_to(0), FRESH, 1, 1),
         ("the inner source is taken", taken_in(1, 1), FRESH, 1, 0)]),
     (sheet(0, INNER, arrow(2, 3, after(2)), arrow(1, 4, after(2)), arrow(4, 1, taken(1))), [
-        ("a due timer gave way, its source is entered again", gave_way_to(1), (mask(0, 1, 2), {0: 1, 1: 1}), 0, 0),
-        ("a due timer, the one above is not due", taken_in(1, 9), (mask(0, 1, 2), {0: 1, 1: 2}), 0, 0),
-        ("a timer that is not due, the one above is", NEVER_TRIGGERED, (mask(0, 1, 2), {0: 2, 1: 1}), 0, 0),
-        ("the one above is due", taken_in(1, 9), (mask(0, 1, 2), {0: 1, 1: 1}), 0, 1)]),
+        ("a due timer gave way, its source is entered again", gave_way_to(1), (mask(0, 1, 2), {0: 1, 1: 1}, {1: 1, 2: 1}), 0, 0),
+        ("a due timer, the one above is not due", taken_in(1, 9), (mask(0, 1, 2), {0: 1, 1: 2}, {2: 1}), 0, 0),
+        ("a timer that is not due, the one above is", NEVER_TRIGGERED, (mask(0, 1, 2), {0: 2, 1: 1}, {1: 1}), 0, 0),
+        ("the one above is due", taken_in(1, 9), (mask(0, 1, 2), {0: 1, 1: 1}, {1: 1, 2: 1}), 0, 1)]),
     (sheet(1, INNER, arrow(4, 1, on(0)), arrow(2, 3, taken(0)), arrow(1, 4, off(0), OR, entered(1))), [
         ("9: passed through", 9, (mask(0, 4), {}), 1, 1)]),
     (sheet(1, [*INNER, atomic()], arrow(4, 1, on(0)), arrow(2, 3, taken(0)), arrow(1, 5, off(0), OR, entered(1))), [
@@ -1072,7 +1077,7 @@ REASONS = [
         ("entered by the last round, with eight timers", NEVER_TRIGGERED, (mask(0, 9), {}), 1, 7),
         ("16: 64 of 64", 16, FRESH, 0, 64), ("16: 2^32 - 1 of 64", 16, FRESH, 0, TOP)]),
     (FULL, [
-        ("mode 31 with its timer", taken_in(1, 9), (mask(0, 31), {0: 1}), 0, 0),
+        ("mode 31 with its timer", taken_in(1, 9), (mask(0, 31), {0: 1}, {31: 2}), 0, 0),
         ("mode 31 entered by a timer", NEVER_TRIGGERED, (mask(0, 1), {1: 1}), 0, 0),
         ("mode 31 not active", NEVER_ACTIVE, (mask(0, 30), {}), 0, 0)]),
     (rounds_64(range(64)), [(f"64 rounds: {t}", taken_in(t + 1, t % 8 + 1), FRESH, 1, t) for t in range(64)]
@@ -1121,8 +1126,10 @@ MASKS = [
 # ---------------------------------------------------------------- the stream
 
 def state_numbers(state):
-    place, readings = state
-    return [place, len(readings)] + [x for pair in readings.items() for x in pair]
+    """As the conformance program reads a state: the age of mode m stands as a pair of 64 + m and the age."""
+    place, readings, *ages = state
+    pairs = list(readings.items()) + [(64 + mode, age) for of in ages for mode, age in of.items()]
+    return [place, len(pairs)] + [x for pair in pairs for x in pair]
 
 
 def check_case(name, refusal, words):

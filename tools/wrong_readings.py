@@ -38,10 +38,9 @@ FUNCTIONS = """
     bits mask_of Transition.is_delay Transition.delay Transition.is_timer Transition.alternatives Chart.children
     Chart.ancestors Chart.contains Chart.meeting Chart.within Chart.side Chart.completed Chart.consistent Chart.running
     Chart.timer_words Chart.work_out parse mode_rows_ok ends_ok terms_ok Tick.rounds Tick.words term_holds
-    alternative_that_holds Tick.numbers tick react conflict gives_way State.fresh readings_ok sheet_state_ok table_state_ok
-    sheet_tick run_sheet cell_tick cell_numbers compile_sheet table_words table_layout_ok block_at timers_of delay_of
-    cell_at table_tick run_table""".split()
-ELSEWHERE = {"ages", "aged"}                        # names of requests that have not landed
+    alternative_that_holds Tick.numbers tick react conflict gives_way State.fresh aged readings_ok ages_ok sheet_state_ok
+    table_state_ok sheet_tick run_sheet cell_tick cell_numbers compile_sheet table_words table_layout_ok block_at mask_at
+    timers_of delay_of cell_at table_tick run_table""".split()
 ADDED = ["why", "Why.answer", "within_masks", "milliseconds", "check_table", "table_is_true"]
 # what the answers call; the second file imports the first
 CALLED = {"modechart.py": ["State", "check", "compile_sheet", "run_sheet", "run_table"],
@@ -156,6 +155,7 @@ FORCED = {
         ("table_is_true", "masks[0] != 0", "masks[0] < 0")],
     "with a smaller T there are fewer timer words, with a smaller k the last cell would lie past the table's end": [
         ("table_is_true", "(k, T) != (chart.k, chart.T)", "(k, T) > (chart.k, chart.T)")],
+    "a mask has 32 bits, so a mode 32 is inactive, and an age of 0 is not shown": [("aged", "range(32)", "range(33)")],
     "each block lies within the words": [("table_layout_ok", "end == len(table)", "end >= len(table)")],
 }
 
@@ -174,6 +174,7 @@ FORCED_BY_HAND = {
     "readings of all timers drop": "every other reading is 0",
     "7 counts delays of 0": "rounds end when none is eligible, so no delay of 0 has an active source then",
     "a cell's timers not due are at 1": "a reading is due or not, and what is left of it is not in the table",
+    "the sum counts modulo 2^16": "a reading is at most its delay, so a sum of the delay and 65,536 has an age above 65,535",
 }
 
 
@@ -256,8 +257,9 @@ ALIKE = {"source": ["target"], "target": ["source"], "entered": ["exited", "acti
          "eligible": ["triggered", "gave_way"], "triggered": ["eligible"], "gave_way": ["triggered"], "low": ["high"],
          "high": ["low"], "a": ["b"], "b": ["a"], "ma": ["mb"], "mb": ["ma"], "s": ["t"], "t": ["s", "u"], "u": ["t"],
          "parent": ["first"], "first": ["parent"], "n": ["T", "k"], "k": ["T", "n"], "T": ["n", "k", "B"], "B": ["T"],
-         "offset": ["length", "end"], "end": ["offset"], "readings": ["lowered"], "lowered": ["readings"],
-         "inputs": ["out"], "work": ["table"], "state": ["after"], "mask": ["after"], "masks": ["blocks"],
+         "offset": ["length", "end"], "end": ["offset"], "readings": ["lowered", "ages"], "lowered": ["readings"],
+         "ages": ["readings"], "inputs": ["out"], "work": ["table"], "state": ["after"], "mask": ["after"],
+         "after": ["entered"], "masks": ["blocks"],
          "blocks": ["masks"], "timers": ["cells"], "kind": ["value"], "to": ["round"], "round": ["to", "alternative"],
          "alternative": ["round"], "NEVER_ACTIVE": ["NEVER_TRIGGERED"], "NEVER_TRIGGERED": ["NEVER_ACTIVE", "GAVE_WAY"],
          "GAVE_WAY": ["TAKEN"], "TAKEN": ["GAVE_WAY"]}
@@ -272,11 +274,6 @@ def is_test(node):
     if isinstance(node, ast.Call):
         return getattr(node.func, "id", "") in ("any", "all")
     return isinstance(node, (ast.Compare, ast.BoolOp)) or isinstance(getattr(node, "op", None), ast.Not)
-
-
-def is_elsewhere(node):
-    """Does a request speak in this that has not landed?"""
-    return any(getattr(inner, "id", getattr(inner, "attr", None)) in ELSEWHERE for inner in ast.walk(node))
 
 
 class Landing(ast.NodeTransformer):
@@ -383,7 +380,7 @@ def is_guard(node):
 
 def are_exchangeable(one, next_one):
     """Two guards in a row with different answers, which may both apply."""
-    if not is_guard(one) or not is_guard(next_one) or is_elsewhere(next_one):
+    if not is_guard(one) or not is_guard(next_one):
         return False
     of_one_value = all(isinstance(g.test, ast.Compare) and is_number(g.test.comparators[0]) for g in (one, next_one))
     return not of_one_value and ast.unparse(one.body[0]) != ast.unparse(next_one.body[0])
@@ -394,24 +391,17 @@ def guard_text(node):
 
 
 def is_left_out(node):
-    """Is nothing of it changed? Texts, assertions, and what requests say that have not landed."""
+    """Is nothing of it changed? Texts and assertions."""
     if isinstance(node, (ast.arguments, ast.Assert)):
         return True
-    if isinstance(node, ast.Expr) and isinstance(node.value, ast.Constant):
-        return True
-    if isinstance(node, (ast.If, ast.IfExp)):
-        return is_elsewhere(node.test)
-    if isinstance(node, (ast.stmt, ast.BoolOp)) and not isinstance(node, (ast.Assign, ast.AugAssign)):
-        return False                            # some part of it may have landed
-    return isinstance(node, (ast.stmt, ast.expr)) and is_elsewhere(node)
+    return isinstance(node, ast.Expr) and isinstance(node.value, ast.Constant)
 
 
 def replacements(node, field, names):
     """What may stand in the place of an expression or a statement in a wrong reading."""
     if isinstance(node, ast.expr):
-        if not is_elsewhere(node):
-            yield from instead(node, field in ("test", "ifs") or field == "value" and is_test(node))
-            yield from renamed(node, names)
+        yield from instead(node, field in ("test", "ifs") or field == "value" and is_test(node))
+        yield from renamed(node, names)
     elif isinstance(node, (ast.AugAssign, ast.Expr)):
         yield ast.Pass()
     elif isinstance(node, ast.Assign) and isinstance(node.targets[0], ast.Subscript):

@@ -1,6 +1,6 @@
-// The operations of an archive of the crate `native`, under the names that it gives them.
+// The operations of an archive of the crate `native`, under the names that it gives them; last, how many words its states have.
 macro_rules! calls {
-    ($compile:literal, $table_run:literal) => {
+    ($compile:literal, $table_run:literal, $state_words:literal) => {
         extern "C" {
             #[link_name = $compile]
             fn native_compile(
@@ -33,9 +33,12 @@ macro_rules! calls {
             (refusal, info[0] as usize, info[1] as usize)
         }
 
-        // From power-on: refusal, ticks done. A table run has no numbers.
-        pub fn table_run(table: &[u32], inputs: &[u32], out: &mut [u32], _: &mut [u8]) -> (u32, usize) {
-            let (mut state, mut info) = ([0u32; 65], [0u64; 1]);
+        // refusal, ticks done
+        #[inline(always)]
+        pub fn table_run_from(
+            table: &[u32], state: &mut [u32; $state_words], inputs: &[u32], out: &mut [u32],
+        ) -> (u32, usize) {
+            let mut info = [0u64; 1];
             let refusal = unsafe {
                 native_table_run(
                     table.as_ptr(), table.len(),
@@ -47,12 +50,17 @@ macro_rules! calls {
             };
             (refusal, info[0] as usize)
         }
+
+        // From power-on. A table run has no numbers.
+        pub fn table_run(table: &[u32], inputs: &[u32], out: &mut [u32], _: &mut [u8]) -> (u32, usize) {
+            table_run_from(table, &mut [0; $state_words], inputs, out)
+        }
     };
 }
 
 // The sheet run, which names the alternatives that fired.
 macro_rules! sheet_calls {
-    ($sheet_run:literal) => {
+    ($sheet_run:literal, $state_words:literal) => {
         extern "C" {
             #[link_name = $sheet_run]
             fn native_sheet_run(
@@ -65,8 +73,11 @@ macro_rules! sheet_calls {
             ) -> u32;
         }
 
-        pub fn sheet_run(sheet: &[u32], inputs: &[u32], out: &mut [u32], numbers: &mut [u8]) -> (u32, usize) {
-            let (mut state, mut info) = ([0u32; 65], [0u64; 3]);
+        #[inline(always)]
+        pub fn sheet_run_from(
+            sheet: &[u32], state: &mut [u32; $state_words], inputs: &[u32], out: &mut [u32], numbers: &mut [u8],
+        ) -> (u32, usize) {
+            let mut info = [0u64; 3];
             let refusal = unsafe {
                 native_sheet_run(
                     sheet.as_ptr(), sheet.len(),
@@ -78,6 +89,10 @@ macro_rules! sheet_calls {
                 )
             };
             (refusal, info[0] as usize)
+        }
+
+        pub fn sheet_run(sheet: &[u32], inputs: &[u32], out: &mut [u32], numbers: &mut [u8]) -> (u32, usize) {
+            sheet_run_from(sheet, &mut [0; $state_words], inputs, out, numbers)
         }
     };
 }

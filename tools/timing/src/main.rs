@@ -1,6 +1,7 @@
 // timing [SECONDS] [large | sizes]: compile, the check of a table, table run, sheet run, what a call works out before its first tick,
 // masks, why a transition stayed put and milliseconds, ours beside the hand-optimised Rust version, in turns on the same sheets,
-// inputs and buffers (warm, not cleared). Every word of table, work list and output, and every number and reason, is compared first.
+// inputs and buffers (warm, not cleared). Every word of table, work list, output and state, and every number and reason, is compared
+// first.
 // With BEFORE_DIR set at build, our operations as they were at an earlier commit are timed in the same turns; with MODEL_DIR, the
 // sheet run of the unproved model of patterns/code.
 mod acceptance;
@@ -12,6 +13,7 @@ mod milliseconds;
 #[cfg(model)]
 mod model;
 mod ours;
+mod states;
 mod why;
 mod within;
 
@@ -211,6 +213,7 @@ fn main() {
     for (name, sheet) in charts::charts(what == "large") {
         let c = compiled(name.to_string(), sheet, budget);
         acceptance::time_acceptance(&c, budget);
+        states::compare_states(&c);
         time_table_runs(&c, budget);
         time_sheet_runs(&c, budget);
         within::time_masks(&c.name, &c.sheet, budget);

@@ -1,4 +1,5 @@
 // Why a transition stayed put: ours and the Rust version's, on the same states, input sets and transitions.
+use crate::states::{state_words, STATE_WORDS};
 use crate::{by_turns, edition, print_row, Chart, Version};
 use modechart::fast::{self, Why};
 use modechart::rng::Rng;
@@ -17,10 +18,10 @@ extern "C" {
 
 const QUESTIONS: usize = 256;
 
-// A state, also as the 65 words that ours reads, an input set and a transition.
+// A state, also as the words that ours reads, an input set and a transition.
 struct Question {
     state: SheetState,
-    words: [u32; 65],
+    words: [u32; STATE_WORDS],
     input: u32,
     transition: u32,
 }
@@ -60,8 +61,7 @@ fn question(c: &Chart, first: usize, transition: u32) -> Question {
     let (mut out, mut numbers) = ([0u32; 100], [0u8; 1280]);
     let inputs = &c.inputs[first..first + 20];
     let state = fast::run_sheet_in(&c.sheet, SheetState::FRESH, inputs, &mut out, &mut numbers, edition()).state;
-    let mut words = [state.set; 65];
-    words[1..].copy_from_slice(&state.readings);
+    let words = state_words(state.set, &state.readings, &state.ages);
     Question { state, words, input: c.inputs[first + 20], transition }
 }
 
