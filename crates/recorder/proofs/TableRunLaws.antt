@@ -3,7 +3,7 @@ use mathlib.Core.Path.{_≡_, refl, sym, ap, ap₂, _∙_, subst}
 use mathlib.Core.Bool.{Bool, true, false, not, _&&_, cond}
 use mathlib.Core.List.{List}
 use Prim.Native.Nat.{ℕ, _+_, _-_, _*_, _/_, _^_, _≤_, _<_}
-use native.Mathlib.Nat.{add-zero, pow-le-pow-right, lt-of-lt-of-le, lt-of-le-of-lt}
+use native.Mathlib.Nat.{add-zero, mul-comm, pow-le-pow-right, lt-of-lt-of-le, lt-of-le-of-lt}
 use native.Mathlib.Omega.{arith}
 use lib.Dec.{T, eqb, eqb→eq}
 use lib.ListN.{length, getD}
@@ -27,10 +27,11 @@ use Rattle.run.proofs.EntryLaws.{Young, young-start, ages-start, Moved, young-n
 use Rattle.run.proofs.LoopLaws.{input-below, reached-start, reached-turn, ByDeadlines, due-now, ends-refused}
 use Rattle.meaning.proofs.TableLaws.{cell-lt}
 use Rattle.meaning.proofs.LayoutLaws.{next-lt}
-use Rattle.table.proofs.LayoutFacts.{shape-of, timers-few, timer-lt, delay-pos, delay-lt, cell-inside}
+use Rattle.table.proofs.LayoutFacts.{shape-of, k-le, timers-few, timer-lt, delay-pos, delay-lt, cell-inside}
 use Rattle.recorder.specs.Timers.{timerDelayIn, timersFrom}
 use Rattle.recorder.specs.Runs.{fiveIn}
 use Rattle.meaning.proofs.ListLaws.{row-at, rowFrom-length}
+use Rattle.recorder.proofs.BlockPlaceLaws.{cell-small}
 use Rattle.recorder.proofs.TimerLaws.{delay-at}
 use Rattle.recorder.proofs.TableStateLaws.{admitted}
 use Rattle.recorder.proofs.RestartLaws.{started-there, reading-after, reading-left, stale-is, stays}
@@ -108,13 +109,19 @@ module _ {w inputs out₀ : List ℕ} {q₀ : State} {out ends limits : List ℕ
   idle : (t : ℕ) → t < 64 → has (timersIn w b) t ≡ false → reading (now .readings) t ≡ 0
   idle t l e = reading-now t l ∙ ap (λ (a : Bool). cond a (getD ends t 0 - i) 0) e
 
-  -- six timers at most make a small number
-  pub number-small : {timers : ℕ} → timers ≡ timersIn w b → (d : ℕ) {n : ℕ} → n ≡ dueNumber (members 64 timers) d → n < 64
+  -- six timers at most: there is room for their number above the input set, and with it the cell's number is small
+  few : {timers : ℕ} → timers ≡ timersIn w b → size 64 timers ≤ 6
+  few te = rw te (timers-few w (shape-of w (k .sound)) b (k .low))
+
+  pub number-room : {timers e : ℕ} → timers ≡ timersIn w b → e ≡ kIn w → e + size 64 timers ≤ 64
+  number-room te ke = omega (arith, few te, ke, k-le w (shape-of w (k .sound)))
+
+  pub cell-below : {timers e : ℕ} → timers ≡ timersIn w b → e ≡ kIn w → (d : ℕ) {n input : ℕ} → n ≡ 2 ^ e * dueNumber (members 64 timers) d → input < 2 ^ e → n + input < 4096
   unfolding size
-  number-small te d e =
-      rw (e, te)
-      (lt-of-lt-of-le (dueNumber-lt (members 64 (timersIn w b)) d)
-      (pow-le-pow-right (omega arith) {i = size 64 (timersIn w b)} (timers-few w (shape-of w (k .sound)) b (k .low))))
+  cell-below {timers} {e} te ke d {n} {input} ne l =
+      let small = lt-of-lt-of-le (dueNumber-lt (members 64 timers) d) (pow-le-pow-right (omega arith) {i = size 64 timers} (few te)) in
+      subst (λ (x : ℕ). x + input < 4096) (sym (ne ∙ mul-comm (2 ^ e) (dueNumber (members 64 timers) d)))
+      (cell-small e small (omega (arith, ke, k-le w (shape-of w (k .sound)))) l)
 
   -- ---- the state after a cell, by the deadlines and limits then
 
@@ -137,6 +144,10 @@ module _ {w inputs out₀ : List ℕ} {q₀ : State} {out ends limits : List ℕ
     next-state =
         state-next (timersIn w next) ends′ (i + 1) next (maskIn w next) (cellWord w b c 1) limits′ (sourceIn w) (delayIn w) now (λ t l m. after t l m .2)
         (ages-next i (maskIn w b) (maskIn w next) (cellWord w b c 1) limits limits′ (k .timed .young) aged)
+
+-- the number of the due timers, in the place above the input set
+pub number-scaled : (w : List ℕ) {e n : ℕ} (d : ℕ) → e ≡ kIn w → n ≡ 2 ^ e * d → n ≡ d * 2 ^ kIn w
+number-scaled w {e} d ke ne = ne ∙ mul-comm (2 ^ e) d ∙ ap (λ (x : ℕ). d * 2 ^ x) ke
 
 -- ---- the tick of an input set below 2^k: its due timers choose the cell
 

@@ -17,7 +17,7 @@ ranOf r out =
 
 -- the struct of a block holds what the table says of it
 abbrev pub TableBlockOf : List ℕ → TableBlock → Type 0
-TableBlockOf w b = (b .cells ≡ offsetIn w (b .number) + 3) × (b .timers ≡ timersIn w (b .number)) × (b .mask ≡ maskIn w (b .number))
+TableBlockOf w b = (b .at ≡ offsetIn w (b .number)) × (b .timers ≡ timersIn w (b .number)) × (b .mask ≡ maskIn w (b .number))
 
 -- the five words of the cell that begins at a place
 abbrev pub fiveIn : List ℕ → ℕ → List ℕ

@@ -1,10 +1,12 @@
 -- What a table says of its timers, as a run works it out once. Assumes nothing.
+use mathlib.Core.Path.{_≡_}
 use mathlib.Core.Bool.{_&&_, cond}
 use mathlib.Core.List.{List}
-use Prim.Native.Nat.{ℕ}
+use Prim.Native.Nat.{ℕ, _<_, _≤_}
 use lib.Dec.{eqb, ltb}
+use lib.ListN.{length, getD}
 use Rattle.sets.specs.Sets.{setOf}
-use Rattle.meaning.specs.Table.{tIn, sourceIn, delayIn}
+use Rattle.meaning.specs.Table.{tIn, bIn, sourceIn, delayIn, timersIn}
 
 module _ (w : List ℕ) where
   -- the delay of a timer, 0 for other transitions
@@ -18,3 +20,7 @@ module _ (w : List ℕ) where
   -- the timers with source m
   unfoldable pub timersFrom : ℕ → ℕ
   timersFrom m = timersBelow (tIn w) m
+
+  -- the running timers of each block, in as many words or more
+  abbrev pub BlockTimers : List ℕ → Type 0
+  BlockTimers timers = (bIn w ≤ length timers) × ((b : ℕ) → b < bIn w → getD timers b 0 ≡ timersIn w b)

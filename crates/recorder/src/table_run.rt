@@ -15,10 +15,11 @@ ghost use Rattle.meaning.specs.TableRun.{tableStateOk, tableTicks, tableRun};
 ghost use Rattle.run.specs.States.{stateOf};
 ghost use Rattle.run.specs.Entries.{limitsBy};
 ghost use Rattle.run.specs.Runs.{endedRun};
-ghost use Rattle.recorder.specs.Timers.{timerDelayIn};
+ghost use Rattle.recorder.specs.Timers.{timerDelayIn, BlockTimers};
 ghost use Rattle.recorder.specs.Runs.{ranOf, TableBlockOf, fiveIn};
 use super::state::state_ok;
 use super::timers::delays;
+use super::timers::put_block_timers;
 use super::timers::sources;
 use super::timers::started;
 use super::timers::timers_from;
@@ -38,9 +39,9 @@ use run::state::State;
 use run::state::state_at;
 use sets::transitions;
 use table::table_ok;
+use table::words::block_count;
 use table::words::event_count;
 use table::words::offset;
-use table::words::timers_at;
 
 // What a table run returns: ticks done, the state after them, the refusal.
 pub struct Ran {
@@ -49,33 +50,34 @@ pub struct Ran {
     pub refusal: Refusal,
 }
 
-// A block: its number, its mode mask, where its cells begin, its running timers.
+// A block: its number, its mode mask, where its words begin, its running timers.
 struct TableBlock {
     number: u32,
     mask: u32,
-    cells: usize,
+    at: usize,
     timers: u64,
 }
 
-fn block_at(table: &[u32], number: u32) -> TableBlock
-    requires { ⌜ (tableOk (now table) ≡ true) × (number < bIn (now table)) ⌝ }
+fn block_at(table: &[u32], timers: &[u64], number: u32) -> TableBlock
+    requires { ⌜ (tableOk (now table) ≡ true) × BlockTimers (now table) (now timers) × (number < bIn (now table)) ⌝ }
     ensures { λ r. ⌜ (r .number ≡ number) × TableBlockOf (now (table .entry)) r ⌝ }
 {
-    let at = offset(table, number as usize);
+    let b = number as usize;
+    let at = offset(table, b);
     TableBlock {
         number,
         mask: table[at],
-        cells: at + 3,
-        timers: timers_at(table, at),
+        at,
+        timers: timers[b],
     }
 }
 
 // The number of a cell: due timers, then input set.
-fn cell_number(due: u64, k: u32, input: u32) -> usize
-    requires { ⌜ (due < 64) × (k ≤ 6) × (input < 2 ^ k) ⌝ }
-    ensures { λ r. ⌜ r ≡ due * 2 ^ k + input ⌝ }
+fn cell_number(due: u64, input: u32) -> usize
+    requires { ⌜ due + input < 4096 ⌝ }
+    ensures { λ r. ⌜ r ≡ due + input ⌝ }
 {
-    ((due << k) as usize) + (input as usize)
+    (due as usize) + (input as usize)
 }
 
 // The five words of the cell that begins at a place.
@@ -142,10 +144,18 @@ fn ended(
     }
 }
 
-// Tick by tick: 13, then 15.
-fn ticks(table: &[u32], delays: &[u64; 64], start: State, inputs: &[u32], out: &mut [u32]) -> Ran
+// Tick by tick, with the running timers of each block: 13, then 15.
+fn ticks_with(
+    table: &[u32],
+    timers: &[u64],
+    delays: &[u64; 64],
+    start: State,
+    inputs: &[u32],
+    out: &mut [u32],
+) -> Ran
     requires { ⌜
         (tableOk (now table) ≡ true)
+        × BlockTimers (now table) (now timers)
         × (now delays ≡ rowFrom 0 64 (timerDelayIn (now table)))
         × (tableStateOk (now table) (stateOf start) ≡ true)
         × (5 * length (now inputs) ≤ length (now out)) ⌝ }
@@ -160,7 +170,7 @@ fn ticks(table: &[u32], delays: &[u64; 64], start: State, inputs: &[u32], out: &
     let ages = start.ages;
     let mut ends = deadlines(readings);
     let mut limits = age_limits(ages);
-    let mut b = block_at(table, start.at);
+    let mut b = block_at(table, timers, start.at);
     let mut seen = 0u32;
     let mut soon = 0u64;
     let mut i = 0;
@@ -170,20 +180,20 @@ fn ticks(table: &[u32], delays: &[u64; 64], start: State, inputs: &[u32], out: &
             return ended(&ends, &mut limits, out, seen, b, i, Refusal::InputSet);
         }
         let now = (i + 1) as u64;
-        let d = due_by(&ends, b.timers, soon, now);
-        let cell = b.cells + 6 * cell_number(d.number, k, input);
+        let d = due_by(&ends, b.timers, soon, now, k as usize);
+        let cell = b.at + 6 * cell_number(d.number, input) + 3;
         let next = table[cell];
         let entered = table[cell + 1];
         if stays(next, b.number, d.set, entered) {
             soon = soon_after(&ends, b.timers, soon, now);
         } else {
-            let to = block_at(table, next);
+            let to = block_at(table, timers, next);
             let again = to.timers & started(&from, entered & timed);
             if is_stale(b.timers, d.set, transitions::minus(to.timers, again)) {
                 return ended(&ends, &mut limits, out, seen, b, i, Refusal::Layout);
             }
             restart(delays, &mut ends, again, now);
-            soon = soon_with(&ends, again, d.set, soon);
+            soon = soon_with(again, soon);
             seen = note_entries(&mut limits, seen, b.mask, to.mask, entered, i);
             b = to;
         }
@@ -203,6 +213,50 @@ fn stops(state: State, why: Refusal) -> Ran
         state,
         refusal: why,
     }
+}
+
+// The same, where the table has more blocks than a small array of their timers.
+fn ticks_of_many(
+    table: &[u32],
+    delays: &[u64; 64],
+    start: State,
+    inputs: &[u32],
+    out: &mut [u32],
+) -> Ran
+    requires { ⌜
+        (tableOk (now table) ≡ true)
+        × (now delays ≡ rowFrom 0 64 (timerDelayIn (now table)))
+        × (tableStateOk (now table) (stateOf start) ≡ true)
+        × (5 * length (now inputs) ≤ length (now out)) ⌝ }
+    ensures { λ r. ⌜
+        ranOf r (now (out .exit))
+        ≡ ran (now (out .entry)) (tableTicks (now (table .entry)) (now (inputs .entry)) (stateOf start)) ⌝ }
+{
+    let mut timers = [0u64; 4096];
+    put_block_timers(table, &mut timers);
+    ticks_with(table, &timers, delays, start, inputs, out)
+}
+
+// Tick by tick: 13, then 15.
+fn ticks(table: &[u32], delays: &[u64; 64], start: State, inputs: &[u32], out: &mut [u32]) -> Ran
+    requires { ⌜
+        (tableOk (now table) ≡ true)
+        × (now delays ≡ rowFrom 0 64 (timerDelayIn (now table)))
+        × (tableStateOk (now table) (stateOf start) ≡ true)
+        × (5 * length (now inputs) ≤ length (now out)) ⌝ }
+    ensures { λ r. ⌜
+        ranOf r (now (out .exit))
+        ≡ ran (now (out .entry)) (tableTicks (now (table .entry)) (now (inputs .entry)) (stateOf start)) ⌝ }
+{
+    if inputs.len() == 0 {
+        return stops(start, Refusal::Nothing);
+    }
+    if 64 < block_count(table) {
+        return ticks_of_many(table, delays, start, inputs, out);
+    }
+    let mut timers = [0u64; 64];
+    put_block_timers(table, &mut timers);
+    ticks_with(table, &timers, delays, start, inputs, out)
 }
 
 // The table run, on any table words, state, input sets and output words: 15, 14, 12, then tick by tick 13, then 15. A

@@ -1,17 +1,20 @@
 // What a table says of its timers, worked out once per call.
 ghost use mathlib.Core.Path.{_≡_};
 ghost use mathlib.Core.Bool.{not, true};
-ghost use Prim.Native.Nat.{ℕ, _^_, _<_};
+ghost use Prim.Native.Nat.{ℕ, _^_, _<_, _≤_};
 ghost use lib.Dec.{eqb};
-ghost use lib.ListN.{getD};
+ghost use lib.ListN.{length, getD};
 ghost use Rattle.sets.specs.Sets.{has, setOf, someIn};
 ghost use Rattle.meaning.specs.Lists.{rowFrom};
-ghost use Rattle.meaning.specs.Table.{tableOk};
-ghost use Rattle.recorder.specs.Timers.{timerDelayIn, timersFrom};
+ghost use Rattle.meaning.specs.Table.{bIn, tableOk};
+ghost use Rattle.recorder.specs.Timers.{timerDelayIn, timersFrom, BlockTimers};
 use sets::modes;
 use sets::transitions;
+use table::words::block_count;
+use table::words::offset;
 use table::words::timer_delay;
 use table::words::timer_source;
+use table::words::timers_at;
 use table::words::transition_count;
 
 // The delay of each timer, 0 for other transitions.
@@ -74,4 +77,17 @@ pub fn started(from: &[u64; 32], set: u32) -> u64
         rest = modes::without_lowest(rest);
     }
     r
+}
+
+// The running timers of each block, in words lent for them.
+pub fn put_block_timers(table: &[u32], timers: &mut [u64])
+    requires { ⌜ (tableOk (now table) ≡ true) × (bIn (now table) ≤ length (now timers)) ⌝ }
+    ensures { λ _. ⌜ BlockTimers (now (table .entry)) (now (timers .exit)) ⌝ }
+{
+    let count = block_count(table);
+    let mut b = 0;
+    while b < count {
+        timers[b] = timers_at(table, offset(table, b));
+        b += 1;
+    }
 }

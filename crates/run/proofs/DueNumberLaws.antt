@@ -3,10 +3,11 @@ use mathlib.Core.Path.{_≡_, refl, sym, ap, _∙_, subst}
 use mathlib.Core.Bool.{Bool, true, false}
 use mathlib.Core.List.{List, [], _∷_}
 use Prim.Native.Nat.{ℕ, suc, _+_, _*_, _^_, _≤_, _<_}
-use native.Mathlib.Nat.{add-zero, zero-add, zero-mul, one-mul, mul-add, mul-one, mul-assoc, mul-zero, pow-suc, pow-le-pow-right, lt-of-lt-of-le}
+use native.Mathlib.Nat.{add-zero, zero-add, zero-mul, mul-add, mul-one, mul-assoc, mul-zero, pow-suc, pow-le-pow-right, lt-of-lt-of-le}
 use native.Mathlib.Numerals.{add-one}
 use native.Mathlib.Omega.{arith}
 use lib.ListN.{length}
+use lib.Pow.{pow-pos}
 use Rattle.sets.specs.Sets.{has, union, minus, digit, those, members, size}
 use Rattle.sets.proofs.Tests.{is-true, of-true}
 use Rattle.sets.proofs.Facts.{size-le}
@@ -15,7 +16,7 @@ use Rattle.sets.proofs.Members.{Turn, members-turn, members-none}
 use Rattle.sets.proofs.Those.{Subset, subset-turn, those-start, those-tested, those-done}
 use Rattle.meaning.specs.TableRun.{dueNumber}
 
-module _ (timers : ℕ) (p : ℕ → Bool) where
+module _ (timers low : ℕ) (p : ℕ → Bool) where
   abbrev all : ℕ
   all = those 64 timers p
 
@@ -26,17 +27,17 @@ module _ (timers : ℕ) (p : ℕ → Bool) where
     pub built : set ≡ minus all rest
     pub small : number < 2 ^ place
     pub room : place + size 64 rest ≤ 64
-    pub sum : number + 2 ^ place * dueNumber (members 64 rest) all ≡ dueNumber (members 64 timers) all
+    pub sum : number + 2 ^ place * dueNumber (members 64 rest) all ≡ 2 ^ low * dueNumber (members 64 timers) all
 
-  pub counted-start : timers < 2 ^ 64 → Counted 0 0 0 timers
-  counted-start l =
+  pub counted-start : timers < 2 ^ 64 → low + size 64 timers ≤ 64 → Counted 0 0 low timers
+  counted-start l r =
       record {
         fits = l;
         part = λ i h. h;
         built = sym (those-start 64 timers p);
-        small = omega arith;
-        room = omega (arith, size-le 64 timers);
-        sum = zero-add (1 * dueNumber (members 64 timers) all) ∙ one-mul (dueNumber (members 64 timers) all);
+        small = pow-pos low;
+        room = r;
+        sum = zero-add (2 ^ low * dueNumber (members 64 timers) all);
       }
 
   -- adding a timer's digit
@@ -85,7 +86,7 @@ module _ (timers : ℕ) (p : ℕ → Bool) where
         }
 
   pub counted-done : {set number place rest : ℕ} → Counted set number place rest → rest ≡ 0
-      → (set ≡ all) × (number ≡ dueNumber (members 64 timers) all)
+      → (set ≡ all) × (number ≡ 2 ^ low * dueNumber (members 64 timers) all)
   unfolding dueNumber
   counted-done {set} {number} {place} {rest} c z = (
     c .built ∙ those-done 64 timers rest p z,
@@ -97,3 +98,7 @@ pub number-none : (ts : List ℕ) → dueNumber ts 0 ≡ 0
 unfolding dueNumber digit
 number-none [] = refl
 number-none (t ∷ ts) = rw (has-none t, number-none ts)
+
+-- from bit 0 on there is room for every timer
+pub room-from-0 : (timers : ℕ) → 0 + size 64 timers ≤ 64
+room-from-0 timers = omega (arith, size-le 64 timers)

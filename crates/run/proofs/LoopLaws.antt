@@ -2,7 +2,7 @@
 -- all gives from the start; and a run that stops before any tick. Assumes nothing.
 use mathlib.Core.Path.{_≡_, refl, sym, ap, _∙_}
 use mathlib.Core.Bool.{Bool, true, false}
-use mathlib.Core.List.{List}
+use mathlib.Core.List.{List, [], _∷_}
 use Prim.Native.Nat.{ℕ, suc, _+_, _*_, _/_, _^_, _≤_, _<_, zero-le}
 use native.Mathlib.Nat.{zero-add, add-zero, mod-lt, div-eq-of-lt, div-add-mod', le-of-lt, lt-of-not-le, zero-mul}
 use native.Mathlib.Decide.{decLe}
@@ -192,3 +192,9 @@ module _ (k : ℕ) (step : State → ℕ → Step) (refusal : ℕ) (ok short : B
 
   pub goes-on : refusal ≡ 0 → ok ≡ true → short ≡ false → ran out (ticks k step inputs q) ≡ run k step refusal ok short q inputs out
   goes-on z e h = sym (run-goes k step refusal ok short q inputs out z e h)
+
+-- with no input set no tick is done
+pub stopped-none : (k : ℕ) (step : State → ℕ → Step) (q : State) (inputs out : List ℕ) → length inputs ≡ 0 → stopped q out 0 ≡ ran out (ticks k step inputs q)
+unfolding ticks ran stops overwritten
+stopped-none k step q [] out e = refl
+stopped-none k step q (i ∷ is) out e = absurd (omega (arith, e))

@@ -1,10 +1,10 @@
 // Readings during a run: for each timer its deadline, the tick, counted from 1 in the call, in which its reading is 0.
 ghost use mathlib.Core.Path.{_≡_};
 ghost use mathlib.Core.Bool.{cond, true};
-ghost use Prim.Native.Nat.{ℕ, _+_, _-_, _%_, _^_, _<_, _≤_};
+ghost use Prim.Native.Nat.{ℕ, _+_, _-_, _*_, _%_, _^_, _<_, _≤_};
 ghost use lib.Dec.{eqb};
 ghost use lib.ListN.{length, getD};
-ghost use Rattle.sets.specs.Sets.{has, those, members};
+ghost use Rattle.sets.specs.Sets.{has, those, members, size};
 ghost use Rattle.meaning.specs.Lists.{rowFrom};
 ghost use Rattle.meaning.specs.TableRun.{dueNumber};
 use sets::transitions;
@@ -37,20 +37,21 @@ pub fn readings_at(ends: &[u64; 64], timers: u64, tick: u64) -> [u32; 64]
     r
 }
 
-// The timers of a set that are due in a tick: as a set, and as the number that they make, the lowest timer in bit 0.
+// The timers of a set that are due in a tick: as a set, and as the number that they make, the lowest timer in bit `low`.
 pub struct DueTimers {
     pub set: u64,
     pub number: u64,
 }
 
-pub fn due(ends: &[u64; 64], timers: u64, tick: u64) -> DueTimers
+pub fn due(ends: &[u64; 64], timers: u64, tick: u64, low: usize) -> DueTimers
+    requires { ⌜ low + size 64 timers ≤ 64 ⌝ }
     ensures { λ r. ⌜
         (r .set ≡ those 64 timers (λ t. eqb (getD (now (ends .entry)) t 0) tick))
-        × (r .number ≡ dueNumber (members 64 timers) (r .set)) ⌝ }
+        × (r .number ≡ 2 ^ low * dueNumber (members 64 timers) (r .set)) ⌝ }
 {
     let mut set = 0u64;
     let mut number = 0u64;
-    let mut place = 0;
+    let mut place = low;
     let mut rest = timers;
     while rest != 0 {
         let t = transitions::lowest(rest);
@@ -64,16 +65,16 @@ pub fn due(ends: &[u64; 64], timers: u64, tick: u64) -> DueTimers
 }
 
 // The same, where none of them is due before the tick soon.
-pub fn due_by(ends: &[u64; 64], timers: u64, soon: u64, tick: u64) -> DueTimers
-    requires { ⌜ ((t : ℕ) → has timers t ≡ true → soon ≤ getD (now ends) t 0) ⌝ }
+pub fn due_by(ends: &[u64; 64], timers: u64, soon: u64, tick: u64, low: usize) -> DueTimers
+    requires { ⌜ ((t : ℕ) → has timers t ≡ true → soon ≤ getD (now ends) t 0) × (low + size 64 timers ≤ 64) ⌝ }
     ensures { λ r. ⌜
         (r .set ≡ those 64 timers (λ t. eqb (getD (now (ends .entry)) t 0) tick))
-        × (r .number ≡ dueNumber (members 64 timers) (r .set)) ⌝ }
+        × (r .number ≡ 2 ^ low * dueNumber (members 64 timers) (r .set)) ⌝ }
 {
     if tick < soon {
         return DueTimers { set: 0, number: 0 };
     }
-    due(ends, timers, tick)
+    due(ends, timers, tick, low)
 }
 
 // A tick before which no timer of a set is due.
@@ -103,16 +104,12 @@ pub fn soon_after(ends: &[u64; 64], timers: u64, soon: u64, tick: u64) -> u64
     soon
 }
 
-// A tick that is not after soon and before which no timer of a set is due; 0 where some were due.
-pub fn soon_with(ends: &[u64; 64], set: u64, due: u64, soon: u64) -> u64
-    ensures { λ r. ⌜ (r ≤ soon) × ((t : ℕ) → has set t ≡ true → r ≤ getD (now (ends .entry)) t 0) ⌝ }
+// A tick that is not after soon, and 0 where some timers start: what is known then of the timers that go on and of those.
+pub fn soon_with(started: u64, soon: u64) -> u64
+    ensures { λ r. ⌜ (r ≤ soon) × ((t : ℕ) → has started t ≡ true → r ≡ 0) ⌝ }
 {
-    if due != 0 {
+    if started != 0 {
         return 0;
-    }
-    let first = soonest(ends, set);
-    if first < soon {
-        return first;
     }
     soon
 }

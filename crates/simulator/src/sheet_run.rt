@@ -252,7 +252,7 @@ fn ticks(
             );
         }
         let now = i + 1;
-        let d = due_by(&ends, running, soon, now as u64);
+        let d = due_by(&ends, running, soon, now as u64, 0);
         let from = start_from(sheet, plan, power_on, x, live);
         let first = first_triggered(sheet, plan, from, d.set, input);
         if first == 0 && x != 0 {

@@ -42,7 +42,7 @@ fn tick_report(sheet: &[u32], plan: &Plan, state: State, input: u32, t: usize) -
     let readings = state.readings;
     let ends = deadlines(readings);
     let timers = running(sheet, plan, state.at);
-    let due = due(&ends, timers, 1);
+    let due = due(&ends, timers, 1, 0);
     let b = start_of(sheet, plan, state.at);
     // As `first_triggered`, which is compiled into the loop of the sheet run while nothing but that and a cell's tick calls it.
     let sure = b.live & (due.set | hits(sheet, plan, input));

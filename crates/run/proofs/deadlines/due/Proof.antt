@@ -3,7 +3,7 @@ use mathlib.Core.Path.{_≡_, refl, sym, ap, _∙_, subst}
 use mathlib.Core.Bool.{Bool}
 use mathlib.Core.List.{List}
 use borrow.Author.Needs.{needs}
-use Prim.Native.Nat.{ℕ, _+_, _^_, _<_}
+use Prim.Native.Nat.{ℕ, _+_, _*_, _^_, _<_}
 use native.Mathlib.Omega.{arith}
 use lib.Dec.{eqb}
 use lib.ListN.{getD}
@@ -19,13 +19,13 @@ abbrev isDue : List ℕ → ℕ → ℕ → Bool
 isDue ends tick t = eqb (getD ends t 0) tick
 
 abbrev Inv-loop : tie.InvT-loop
-Inv-loop ends timers tick set₀ number₀ place₀ rest₀ set number place rest = Counted timers (isDue ends tick) set number place rest
+Inv-loop ends timers tick low set₀ number₀ place₀ rest₀ set number place rest = Counted timers low (isDue ends tick) set number place rest
 
 abbrev μ-loop : tie.MeasureT-loop
-μ-loop ends timers tick set₀ number₀ place₀ rest₀ set number place rest = rest
+μ-loop ends timers tick low set₀ number₀ place₀ rest₀ set number place rest = rest
 
 loop-holds : tie.Need-loop-holds Inv-loop μ-loop
-loop-holds c = counted-start (c .args .timers) (isDue (c .args .ends .now) (c .args .tick)) (c .fits .timers .fits)
+loop-holds c = counted-start (c .args .timers) (c .args .low) (isDue (c .args .ends .now) (c .args .tick)) (c .fits .timers .fits) (c .pre)
 
 known : (c : tie.After-lowest Inv-loop μ-loop) {r : ℕ} → r ≡ minus (c .before .before .loop .rest) (single (lowest 64 (c .before .before .loop .rest)))
     → Turn 64 (c .before .before .loop .rest) (c .lowest .result) r
@@ -45,16 +45,16 @@ single-if-requires c κs = known (c .before) refl .lowest .small
 
 single-if-requires-2 : tie.Need-single-if-requires-2 Inv-loop μ-loop
 single-if-requires-2 c κs =
-    place-small _ _ (c .before .before .before .before .loop .inv) (known (c .before .before) refl)
+    place-small _ _ _ (c .before .before .before .before .loop .inv) (known (c .before .before) refl)
 
 add-number : tie.Need-add-number Inv-loop μ-loop
 add-number c =
     let l = c .before .before .before .before .before .loop in
-    let small = number-small _ _ (l .inv) (known (c .before .before .before) refl) in
+    let small = number-small _ _ _ (l .inv) (known (c .before .before .before) refl) in
     record { fits = subst (λ (x : ℕ). l .number + x < 2 ^ 64) (sym (c .single-if2 .ensures)) small }
 
 add-place : tie.Need-add-place Inv-loop μ-loop
-add-place c = omega (arith, place-small _ _ (c .before .before .before .before .before .loop .inv) (known (c .before .before .before) refl))
+add-place c = omega (arith, place-small _ _ _ (c .before .before .before .before .before .loop .inv) (known (c .before .before .before) refl))
 
 without-lowest-requires : tie.Need-without-lowest-requires Inv-loop μ-loop
 without-lowest-requires c κs = known (c .before .before .before) refl .filled
@@ -66,14 +66,14 @@ loop-again : tie.Need-loop-again Inv-loop μ-loop
 loop-again c =
     let l = c .before .before .before .before .before .before .loop in
     rw (c .before .before .single-if .ensures, c .before .single-if2 .ensures)
-    (counted-turn _ _ (l .inv) (known (c .before .before .before .before) (c .without-lowest .ensures)))
+    (counted-turn _ _ _ (l .inv) (known (c .before .before .before .before) (c .without-lowest .ensures)))
 
 returns : tie.Need-returns Inv-loop μ-loop
 returns c =
     let a = c .before .before .args in
     let l = c .before .loop in
-    let done = counted-done (a .timers) (isDue (a .ends .now) (a .tick)) (l .inv) (c .loop-test .left) in
-    (done .0, done .1 ∙ ap (dueNumber (members 64 (a .timers))) (sym (done .0)))
+    let done = counted-done (a .timers) (a .low) (isDue (a .ends .now) (a .tick)) (l .inv) (c .loop-test .left) in
+    (done .0, done .1 ∙ ap (λ (x : ℕ). 2 ^ a .low * dueNumber (members 64 (a .timers)) x) (sym (done .0)))
 
 pub due-spec : {M : Type 1} → statement M
 due-spec =

@@ -29,6 +29,7 @@ use Rattle.run.specs.Counts.{totalOf}
 use Rattle.run.specs.Entries.{limitsBy}
 use Rattle.run.specs.Runs.{endedRun}
 use Rattle.run.specs.States.{stateOf}
+use Rattle.run.proofs.DueNumberLaws.{room-from-0}
 use Rattle.run.proofs.EntryLaws.{limits-none, limits-quiet}
 use Rattle.run.proofs.LoopLaws.{input-below, later, ends-done, ends-foreign}
 use Rattle.simulator.proofs.DelayLaws.{delay-word}
@@ -286,7 +287,7 @@ add-now : tie.Need-add-now Inv-loop μ-loop
 add-now c = search needs
 
 due-by-requires : tie.Need-due-by-requires Inv-loop μ-loop
-due-by-requires c κs = no-sooner (c .before .before .before .before)
+due-by-requires c κs = (no-sooner (c .before .before .before .before), room-from-0 _)
 
 start-from-requires : tie.Need-start-from-requires Inv-loop μ-loop
 start-from-requires c κs =

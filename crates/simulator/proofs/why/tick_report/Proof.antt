@@ -4,6 +4,7 @@ use borrow.Author.Needs.{needs}
 use Rattle.meaning.specs.Reaction.{triggered}
 use Rattle.reaction.specs.Rounds.{startSets, Before}
 use Rattle.run.specs.States.{stateOf}
+use Rattle.run.proofs.DueNumberLaws.{room-from-0}
 use Rattle.reaction.proofs.StartLaws.{unsure-asks, first-words, begun-of}
 use Rattle.simulator.proofs.WhyLaws.{begins, report-refused, report-reason}
 use Rattle.simulator.proofs.why.tick_report.Statement.{statement}
@@ -16,7 +17,7 @@ running-requires : tie.Need-running-requires
 running-requires c κs = search needs
 
 due-requires : tie.Need-due-requires
-due-requires c κs = search needs
+due-requires c κs = room-from-0 _
 
 start-of-requires : tie.Need-start-of-requires
 start-of-requires c κs = search needs
