@@ -1,13 +1,12 @@
 -- A block's timers and cells: where they stand, and the number of a cell. Assumes nothing.
-use mathlib.Core.Path.{_≡_}
 use mathlib.Core.List.{List}
-use Prim.Native.Nat.{ℕ, _+_, _*_, _%_, _^_, _≤_, _<_}
+use Prim.Native.Nat.{ℕ, _+_, _*_, _^_, _≤_, _<_}
 use native.Mathlib.Nat.{lt-of-lt-of-le, mul-le-mul-left}
 use native.Mathlib.Omega.{arith}
 use lib.Arith.{digits-lt}
 use lib.Dec.{T}
 use lib.ListN.{length}
-use lib.Pow.{shl-exact, pow-mono}
+use lib.Pow.{pow-mono}
 use Rattle.meaning.specs.Table.{bIn, offsetIn, tableOk}
 use Rattle.table.proofs.LayoutFacts.{shape-of, length-is, block-inside}
 
@@ -15,9 +14,6 @@ use Rattle.table.proofs.LayoutFacts.{shape-of, length-is, block-inside}
 pub header-inside : (w : List ℕ) → T (tableOk w) → (b : ℕ) → b < bIn w → offsetIn w b + 3 ≤ length w
 header-inside w h b l = omega (arith, length-is w (shape-of w h) b l, block-inside w (shape-of w h) b l)
 
--- `due << k`, and the cell's number is small
-pub due-shl : {due : ℕ} (k : ℕ) → due < 64 → k ≤ 6 → due * 2 ^ k % 2 ^ 64 ≡ due * 2 ^ k
-due-shl k d l = shl-exact 6 k 64 d (omega arith)
-
+-- the number of a cell is small
 pub cell-small : {due : ℕ} (k : ℕ) {input : ℕ} → due < 64 → k ≤ 6 → input < 2 ^ k → due * 2 ^ k + input < 4096
 cell-small k d l i = lt-of-lt-of-le (digits-lt d i) (mul-le-mul-left 64 (pow-mono {j = 6} l))
