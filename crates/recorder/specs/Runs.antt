@@ -5,7 +5,7 @@ use Prim.Native.Nat.{ℕ, _+_}
 use lib.ListN.{getD}
 use Rattle.meaning.specs.Refusal.{numberOf}
 use Rattle.meaning.specs.Run as meaning
-use Rattle.meaning.specs.Table.{offsetIn, maskIn, timersIn}
+use Rattle.meaning.specs.Table.{offsetIn, timersIn}
 use Rattle.run.specs.States.{stateOf}
 use Rattle.recorder.specs.declared.table_run.Ran.{Ran}
 use Rattle.recorder.specs.declared.table_run.TableBlock.{TableBlock}
@@ -17,7 +17,7 @@ ranOf r out =
 
 -- the struct of a block holds what the table says of it
 abbrev pub TableBlockOf : List ℕ → TableBlock → Type 0
-TableBlockOf w b = (b .at ≡ offsetIn w (b .number)) × (b .timers ≡ timersIn w (b .number)) × (b .mask ≡ maskIn w (b .number))
+TableBlockOf w b = (b .at ≡ offsetIn w (b .number)) × (b .timers ≡ timersIn w (b .number))
 
 -- the five words of the cell that begins at a place
 abbrev pub fiveIn : List ℕ → ℕ → List ℕ

@@ -10,7 +10,7 @@ ghost use Rattle.rows.specs.Over.{fiveOf};
 ghost use Rattle.meaning.specs.Lists.{rowFrom};
 ghost use Rattle.meaning.specs.Refusal.{numberOf};
 ghost use Rattle.meaning.specs.Run.{ran};
-ghost use Rattle.meaning.specs.Table.{bIn, tableOk};
+ghost use Rattle.meaning.specs.Table.{bIn, maskIn, tableOk};
 ghost use Rattle.meaning.specs.TableRun.{tableStateOk, tableTicks, tableRun};
 ghost use Rattle.run.specs.States.{stateOf};
 ghost use Rattle.run.specs.Entries.{limitsBy};
@@ -50,10 +50,9 @@ pub struct Ran {
     pub refusal: Refusal,
 }
 
-// A block: its number, its mode mask, where its words begin, its running timers.
+// A block: its number, where its words begin, its running timers.
 struct TableBlock {
     number: u32,
-    mask: u32,
     at: usize,
     timers: u64,
 }
@@ -66,10 +65,18 @@ fn block_at(table: &[u32], timers: &[u64], number: u32) -> TableBlock
     let at = offset(table, b);
     TableBlock {
         number,
-        mask: table[at],
         at,
         timers: timers[b],
     }
+}
+
+// Its mode mask, which is read where it is asked for: one word less to keep from tick to tick.
+fn mask_of(table: &[u32], b: TableBlock) -> u32
+    requires { ⌜ (tableOk (now table) ≡ true) × (b .number < bIn (now table)) × TableBlockOf (now table) b ⌝ }
+    ensures { λ r. ⌜ r ≡ maskIn (now (table .entry)) (b .number) ⌝ }
+{
+    let at = b.at;
+    table[at]
 }
 
 // The number of a cell: due timers, then input set.
@@ -117,6 +124,7 @@ fn stays(next: u32, number: u32, due: u64, entered: u32) -> bool
 // A run that ends after some ticks in a block; no deadline of its timers is past. The modes of `seen` were last entered as the words
 // of the ticks say; none of the block's is yet to be entered.
 fn ended(
+    table: &[u32],
     ends: &[u64; 64],
     limits: &mut [u64; 32],
     out: &[u32],
@@ -126,17 +134,21 @@ fn ended(
     why: Refusal,
 ) -> Ran
     requires { ⌜
-        ((t : ℕ) → has (b .timers) t ≡ true → done ≤ getD (now ends) t 0)
-        × ((m : ℕ) → has (b .mask) m ≡ true → getD (limitsBy (now limits) (now out) seen done) m 0 ≤ done + 65535)
+        (tableOk (now table) ≡ true)
+        × (b .number < bIn (now table))
+        × TableBlockOf (now table) b
+        × ((t : ℕ) → has (b .timers) t ≡ true → done ≤ getD (now ends) t 0)
+        × ((m : ℕ) → has (maskIn (now table) (b .number)) m ≡ true → getD (limitsBy (now limits) (now out) seen done) m 0 ≤ done + 65535)
         × (length (now limits) ≡ 32)
         × (5 * done ≤ length (now out)) ⌝ }
     ensures { λ r. ⌜ ((words : List ℕ) →
         ranOf r words
         ≡ endedRun (now (ends .entry)) (limitsBy (now (limits .entry)) (now (out .entry)) seen done)
-        (b .number) (b .mask) (b .timers) done 0 (numberOf why) words) ⌝ }
+        (b .number) (maskIn (now (table .entry)) (b .number)) (b .timers) done 0 (numberOf why) words) ⌝ }
 {
     enter_by_words(out, limits, seen, done);
-    let state = state_at(ends, limits, b.number, b.mask, b.timers, done as u64);
+    let mask = mask_of(table, b);
+    let state = state_at(ends, limits, b.number, mask, b.timers, done as u64);
     Ran {
         done: Ticks(done),
         state,
@@ -177,7 +189,16 @@ fn ticks_with(
     while i < inputs.len() {
         let input = inputs[i];
         if input >> k != 0 {
-            return ended(&ends, &mut limits, out, seen, b, i, Refusal::InputSet);
+            return ended(
+                table,
+                &ends,
+                &mut limits,
+                out,
+                seen,
+                b,
+                i,
+                Refusal::InputSet,
+            );
         }
         let now = (i + 1) as u64;
         let d = due_by(&ends, b.timers, soon, now, k as usize);
@@ -190,17 +211,19 @@ fn ticks_with(
             let to = block_at(table, timers, next);
             let again = to.timers & started(&from, entered & timed);
             if is_stale(b.timers, d.set, transitions::minus(to.timers, again)) {
-                return ended(&ends, &mut limits, out, seen, b, i, Refusal::Layout);
+                return ended(table, &ends, &mut limits, out, seen, b, i, Refusal::Layout);
             }
             restart(delays, &mut ends, again, now);
             soon = soon_with(again, soon);
-            seen = note_entries(&mut limits, seen, b.mask, to.mask, entered, i);
+            let was = mask_of(table, b);
+            let is = mask_of(table, to);
+            seen = note_entries(&mut limits, seen, was, is, entered, i);
             b = to;
         }
         put_five(out, 5 * i, five_at(table, cell));
         i += 1;
     }
-    ended(&ends, &mut limits, out, seen, b, i, Refusal::Nothing)
+    ended(table, &ends, &mut limits, out, seen, b, i, Refusal::Nothing)
 }
 
 // A run that stops before any tick.

@@ -9,15 +9,15 @@ use Prim.Native.Nat.{ℕ, _+_, _-_, _*_, _/_, _^_, _≤_, _<_}
 use native.Mathlib.Omega.{arith}
 use lib.Dec.{eqb, eqb→eq}
 use lib.ListN.{length, getD}
-use Rattle.sets.specs.Sets.{has, meet, minus, members}
+use Rattle.sets.specs.Sets.{has, union, meet, minus, members}
 use Rattle.sets.proofs.Tests.{of-true, and-r}
 use Rattle.rows.specs.Over.{over}
 use Rattle.meaning.proofs.ListLaws.{rowFrom-length}
-use Rattle.meaning.specs.Table.{maskIn, timersIn}
+use Rattle.meaning.specs.Table.{wordIn, bIn, offsetIn, maskIn, timersIn, tableOk}
 use Rattle.meaning.specs.TableRun.{dueNumber}
 use Rattle.meaning.specs.Run.{State}
 use Rattle.run.specs.States.{stateOf}
-use Rattle.run.specs.Entries.{limitsBy}
+use Rattle.run.specs.Entries.{enteredAt, limitsBy}
 use Rattle.run.proofs.EntryLaws.{Moved, moved-by, limits-quiet}
 use Rattle.run.proofs.LoopLaws.{input-below, later, entered-before, ends-done, ends-foreign}
 use Rattle.table.proofs.LayoutFacts.{shape-of, head-sound, k-le}
@@ -36,7 +36,6 @@ Inv-loop table timers delays inputs out₀ k from timed ends₀ limits₀ b₀ s
     Known table k delays from timed
     × ReachedBlock table inputs out₀ (stateAt table (b₀ .number) ends₀ limits₀ 0) out ends (limitsBy limits out seen i) (b .number) i
     × TableBlockOf table b
-    × (b .mask < 2 ^ 32)
     × (length limits ≡ 32)
     × ((t : ℕ) → has (b .timers) t ≡ true → soon ≤ getD ends t 0)
 
@@ -90,20 +89,34 @@ done c = numbered (joined c .before)
 short : (c : tie.In-loop Inv-loop μ-loop) → c .before .loop .i < 2305843009213693952
 short c = let s = start (c .before) in omega (arith, c .loop-test .taken, s .good .1 .1 .1 .1 .0 .1)
 
+-- a mask is a word
+mask-small : (c : tie.At-loop Inv-loop μ-loop) → maskIn (start c .args .table .now) (c .loop .b .number) < 2 ^ 32
+unfolding maskIn wordIn
+mask-small c =
+    let w = start c .args .table .now in
+    counted (made c) .before .before .before .before .shared-slice-known .given (offsetIn w (c .loop .b .number)) .fits
+
 -- a run may end here: no deadline of a running timer is past, no active mode is yet to be entered, and the words are there
 may-end : (c : tie.At-loop Inv-loop μ-loop)
     → let l = c .loop in
-    ((t : ℕ) → has (l .b .timers) t ≡ true → l .i ≤ getD (l .ends) t 0)
-    × ((m : ℕ) → has (l .b .mask) m ≡ true → getD (limitsBy (l .limits) (l .out) (l .seen) (l .i)) m 0 ≤ l .i + 65535)
+    let w = start c .args .table .now in
+    (tableOk w ≡ true)
+    × (l .b .number < bIn w)
+    × TableBlockOf w (l .b)
+    × ((t : ℕ) → has (l .b .timers) t ≡ true → l .i ≤ getD (l .ends) t 0)
+    × ((m : ℕ) → has (maskIn w (l .b .number)) m ≡ true → getD (limitsBy (l .limits) (l .out) (l .seen) (l .i)) m 0 ≤ l .i + 65535)
     × (length (l .limits) ≡ 32)
     × (5 * l .i ≤ length (l .out))
 may-end c =
     let l = c .loop in
     let timed = l .inv .1 .timed in
     let b = l .inv .2 in (
-      later timed (b .2) (b .1),
-      entered-before timed (b .2) (b .1) (l .inv .3),
-      l .inv .4,
+      start c .pre .0,
+      l .inv .1 .low,
+      b,
+      later timed refl (b .1),
+      entered-before timed refl (b .1) (mask-small c),
+      l .inv .3,
       omega (arith, timed .reached .within, timed .reached .room),
     )
 
@@ -124,7 +137,7 @@ chosen : (c : tie.After-cell-number Inv-loop μ-loop)
     let l = at .loop in
     let due = c .before .due-by .result in
     Chosen (a .table .now) (a .inputs .now) (a .out .now) (first at) (l .out) (l .ends) (limitsBy (l .limits) (l .out) (l .seen) (l .i)) (l .b .number) (l .i)
-    (l .b .mask) (l .b .timers) (due .set)
+    (maskIn (a .table .now) (l .b .number)) (l .b .timers) (due .set)
     (dueNumber (members 64 (l .b .timers)) (due .set)) (l .b .at + 6 * c .cell-number .result + 3)
 chosen c =
     let at = head c in
@@ -133,7 +146,7 @@ chosen c =
     let input = getD (start at .args .inputs .now) (at .loop .i) 0 in
     record {
       here = inv .1;
-      activeIs = inv .2 .2;
+      activeIs = refl;
       running = inv .2 .1;
       more = inside (below c) .loop-test .taken;
       below = ap (λ (k : ℕ). input / 2 ^ k) (sym (inv .0 .eventsAre)) ∙ below c .if1 .left;
@@ -186,7 +199,6 @@ loop-holds c =
       start-block _ (of-true (s .pre .0)) (stateOf (s .args .start)) (s .pre .3)
           (b .ensures .0) (on .before .deadlines .ensures) (on .age-limits .ensures) (search needs) (omega (arith, b .ok, b .ensures .1 .1)) (s .pre .4),
       b .ensures .1,
-      omega (arith, b .ok),
       ap length (on .age-limits .ensures) ∙ rowFrom-length _ 0 32,
       λ t h. omega arith,
     )
@@ -214,7 +226,7 @@ returns c =
     let inv = at .loop .inv in
     let input = getD (start at .args .inputs .now) (at .loop .i) 0 in
     c .ended .ensures (at .loop .out)
-    ∙ rw (from-start at) at (ends-foreign (inv .1 .timed) (inv .2 .2) (inv .2 .1) (test .loop-test .taken)
+    ∙ rw (from-start at) at (ends-foreign (inv .1 .timed) refl (inv .2 .1) (test .loop-test .taken)
     (λ e. foreign .if1 .taken (ap (λ (k : ℕ). input / 2 ^ k) (inv .0 .eventsAre) ∙ e)))
 
 add-now : tie.Need-add-now Inv-loop μ-loop
@@ -226,7 +238,7 @@ cast-due-by c = search needs
 due-by-requires : tie.Need-due-by-requires Inv-loop μ-loop
 due-by-requires c κs =
     let inv = inside (c .before) .before .loop .inv in
-    (inv .5, number-room (inv .1) (inv .2 .1) (inv .0 .eventsAre))
+    (inv .4, number-room (inv .1) (inv .2 .1) (inv .0 .eventsAre))
 
 cell-number-requires : tie.Need-cell-number-requires Inv-loop μ-loop
 cell-number-requires c κs =
@@ -262,7 +274,7 @@ stays-requires : tie.Need-stays-requires Inv-loop μ-loop
 stays-requires c κs = search needs
 
 soon-after-requires : tie.Need-soon-after-requires Inv-loop μ-loop
-soon-after-requires c κs = head (numbered (c .before .before)) .loop .inv .5
+soon-after-requires c κs = head (numbered (c .before .before)) .loop .inv .4
 
 block-at-requires-2 : tie.Need-block-at-requires-2 Inv-loop μ-loop
 block-at-requires-2 c κs = let cell = numbered (c .before) in (start (head cell) .pre .0, start (head cell) .pre .1, next-below (chosen cell))
@@ -292,7 +304,7 @@ returns-2 c =
     let to = moved stale .block-at2 in
     c .ended2 .ensures (at .loop .out)
     ∙ rw (from-start at) at (ends-stale (chosen cell) (at .loop .inv .0)
-    (to .ensures .0) (to .ensures .1 .2) (omega (arith, to .ok)) (to .ensures .1 .1) (ap (meet (to .result .timers)) (stale .before .before .before .started .ensures))
+    (to .ensures .0) refl (omega (arith, to .ok)) (to .ensures .1 .1) (ap (meet (to .result .timers)) (stale .before .before .before .started .ensures))
     (ap (λ (x : ℕ). not (eqb (minus x (minus (at .loop .b .timers) (cell .before .due-by .result .set))) 0)) (sym (stale .before .minus .ensures))
     ∙ sym (stale .is-stale .ensures) ∙ c .before .before .before .before .if3 .taken))
 
@@ -308,8 +320,19 @@ restart-requires c κs =
 soon-with-requires : tie.Need-soon-with-requires Inv-loop μ-loop
 soon-with-requires c κs = search needs
 
+mask-of-requires : tie.Need-mask-of-requires Inv-loop μ-loop
+mask-of-requires c κs =
+    let at = head (left (c .before .before .before .before)) in
+    (start at .pre .0, at .loop .inv .1 .low, at .loop .inv .2)
+
+mask-of-requires-2 : tie.Need-mask-of-requires-2 Inv-loop μ-loop
+mask-of-requires-2 c κs =
+    let on = c .before .before .before .before .before in
+    let to = moved on .block-at2 in
+    (start (head (left on)) .pre .0, omega (arith, to .ensures .0, next-below (chosen (left on))), to .ensures .1)
+
 note-entries-requires : tie.Need-note-entries-requires Inv-loop μ-loop
-note-entries-requires c κs = let cell = left (c .before .before .before .before .before) in (head cell .loop .inv .4, omega (arith, short (inside (below cell))))
+note-entries-requires c κs = let cell = left (c .before .before .before .before .before .before .before) in (head cell .loop .inv .3, omega (arith, short (inside (below cell))))
 
 mul-put-five : tie.Need-mul-put-five Inv-loop μ-loop
 mul-put-five c = omega (arith, short (inside (below (numbered (c .before .before)))))
@@ -366,35 +389,35 @@ loop-again c =
       inv .0,
       turn-stays (chosen cell) st out (v .3) exact (ap (λ (b : TableBlock). b .number) (v .5)),
       subst (TableBlockOf w) (sym (v .5)) (inv .2),
-      subst (λ (b : TableBlock). b .mask < 2 ^ 32) (sym (v .5)) (inv .3),
-      ap length (v .4) ∙ inv .4,
+      ap length (v .4) ∙ inv .3,
       λ t h.
           subst (λ (x : List ℕ). joined c .if2 .soon ≤ getD x t 0) (sym (v .3))
           (subst (λ (n : ℕ). n ≤ getD (l .ends) t 0) (sym (v .7)) (v .2 .ensures t (subst (λ (b : TableBlock). has (b .timers) t ≡ true) (v .5) h))),
     ))
     (λ v.
     let exact =
-    ap₂ (λ (x : List ℕ) (y : ℕ). limitsBy x out′ y (l .i + 1)) (v .14) (v .16)
-    ∙ ap (λ (o : List ℕ). limitsBy (v .12 .last .0) o (v .12 .result) (l .i + 1)) out
-    ∙ v .12 .ensures .0 (l .out) (lastFour w place) refl (words-room cell) in
+    ap₂ (λ (x : List ℕ) (y : ℕ). limitsBy x out′ y (l .i + 1)) (v .16) (v .18)
+    ∙ ap (λ (o : List ℕ). limitsBy (v .14 .last .0) o (v .14 .result) (l .i + 1)) out
+    ∙ v .14 .ensures .0 (l .out) (lastFour w place) refl (words-room cell) in
     let r =
-    moves-on (chosen cell) (inv .0) (ap (λ (b : TableBlock). b .number) (v .15) ∙ v .1 .ensures .0)
-    (v .1 .ensures .1 .2 ∙ ap (λ (b : TableBlock). maskIn w (b .number)) (sym (v .15))) (omega (arith, v .1 .ok))
-    (v .1 .ensures .1 .1 ∙ ap (λ (b : TableBlock). timersIn w (b .number)) (sym (v .15))) (ap (meet (v .1 .result .timers)) (v .3 .ensures))
+    moves-on (chosen cell) (inv .0) (ap (λ (b : TableBlock). b .number) (v .17) ∙ v .1 .ensures .0)
+    refl (omega (arith, v .1 .ok))
+    (v .1 .ensures .1 .1 ∙ ap (λ (b : TableBlock). timersIn w (b .number)) (sym (v .17))) (ap (meet (v .1 .result .timers)) (v .3 .ensures))
     (ap (λ (x : ℕ). not (eqb (minus x (minus (l .b .timers) (cell .before .due-by .result .set))) 0)) (sym (v .5 .ensures))
     ∙ sym (v .6 .ensures) ∙ v .7 .left)
     {out′ = out′} {ends′ = joined c .if2 .ends} {limits′ = limitsBy (joined c .if2 .limits) out′ (joined c .if2 .seen) (l .i + 1)} {soon = l .soon} {first = joined c .if2 .soon}
-    out (v .13 ∙ v .9 .ensures)
-    (subst (Moved (l .i) (l .b .mask) (v .1 .result .mask) entered (limitsBy (l .limits) (l .out) (l .seen) (l .i))) (sym exact)
-    (moved-by (l .i) (l .b .mask) (v .1 .result .mask) entered (limitsBy (l .limits) (l .out) (l .seen) (l .i)) refl))
-    (inv .5) (subst (λ (n : ℕ). n ≤ l .soon) (sym (v .17)) (v .10 .ensures .0))
-    (λ u e. subst (λ (n : ℕ). n ≤ getD (joined c .if2 .ends) u 0) (sym (v .17 ∙ v .10 .ensures .1 u e)) (omega arith)) in (
+    out (v .15 ∙ v .9 .ensures)
+    (subst (Moved (l .i) (maskIn w (l .b .number)) (maskIn w (joined c .if2 .b .number)) entered (limitsBy (l .limits) (l .out) (l .seen) (l .i)))
+    (sym (exact ∙ ap₂ (λ (was is : ℕ). enteredAt entered (l .i + 1) (enteredAt (minus is (union was entered)) (l .i) (limitsBy (l .limits) (l .out) (l .seen) (l .i))))
+    (v .11 .ensures) (v .12 .ensures ∙ ap (λ (b : TableBlock). maskIn w (b .number)) (sym (v .17)))))
+    (moved-by (l .i) (maskIn w (l .b .number)) (maskIn w (joined c .if2 .b .number)) entered (limitsBy (l .limits) (l .out) (l .seen) (l .i)) refl))
+    (inv .4) (subst (λ (n : ℕ). n ≤ l .soon) (sym (v .19)) (v .10 .ensures .0))
+    (λ u e. subst (λ (n : ℕ). n ≤ getD (joined c .if2 .ends) u 0) (sym (v .19 ∙ v .10 .ensures .1 u e)) (omega arith)) in (
       inv .0,
       r .0,
-      subst (TableBlockOf w) (sym (v .15)) (v .1 .ensures .1),
-      subst (λ (b : TableBlock). b .mask < 2 ^ 32) (sym (v .15)) (omega (arith, v .1 .ok)),
-      ap length (v .14) ∙ v .12 .ensures .1,
-      λ t h. r .1 t (subst (λ (b : TableBlock). has (b .timers) t ≡ true) (v .15) h),
+      subst (TableBlockOf w) (sym (v .17)) (v .1 .ensures .1),
+      ap length (v .16) ∙ v .14 .ensures .1,
+      λ t h. r .1 t (subst (λ (b : TableBlock). has (b .timers) t ≡ true) (v .17) h),
     ))
     (joined c .if2 .came)
 
@@ -409,7 +432,7 @@ returns-3 c =
     let over = c .before .before .before .before in
     let at = over .before in
     let inv = at .loop .inv in
-    c .ended3 .ensures (at .loop .out) ∙ rw (from-start at) at (ends-done (inv .1 .timed) (inv .2 .2) (inv .2 .1) (over .loop-test .left))
+    c .ended3 .ensures (at .loop .out) ∙ rw (from-start at) at (ends-done (inv .1 .timed) refl (inv .2 .1) (over .loop-test .left))
 
 pub ticks-with-spec : {M : Type 1} → statement M
 ticks-with-spec =
@@ -419,5 +442,5 @@ ticks-with-spec =
     same-length returns add-now cast-due-by due-by-requires cell-number-requires mul-cell add-cell add-cell-2 mul-next
     shared-slice-read-next add-entered mul-entered shared-slice-read-entered stays-requires soon-after-requires
     block-at-requires-2 started-requires minus-requires is-stale-requires ended-requires-2 same-length-2 returns-2
-    restart-requires soon-with-requires note-entries-requires mul-put-five five-at-requires put-five-requires add-i loop-less loop-again
+    restart-requires soon-with-requires mask-of-requires mask-of-requires-2 note-entries-requires mul-put-five five-at-requires put-five-requires add-i loop-less loop-again
     ended-requires-3 same-length-3 returns-3)
