@@ -238,7 +238,7 @@ fn stops(state: State, why: Refusal) -> Ran
     }
 }
 
-// The same, where the table has more blocks than a small array of their timers.
+// Tick by tick on a table of any number of blocks, at most 4,096.
 fn ticks_of_many(
     table: &[u32],
     delays: &[u64; 64],
@@ -260,7 +260,7 @@ fn ticks_of_many(
     ticks_with(table, &timers, delays, start, inputs, out)
 }
 
-// Tick by tick: 13, then 15.
+// Tick by tick: 13, then 15. The timers of few blocks have an array that is soon cleared.
 fn ticks(table: &[u32], delays: &[u64; 64], start: State, inputs: &[u32], out: &mut [u32]) -> Ran
     requires { ⌜
         (tableOk (now table) ≡ true)

@@ -104,7 +104,7 @@ pub fn soon_after(ends: &[u64; 64], timers: u64, soon: u64, tick: u64) -> u64
     soon
 }
 
-// A tick that is not after soon, and 0 where some timers start: what is known then of the timers that go on and of those.
+// After a tick that moves: the tick before which no timer is due, as it was, or 0 where some timers start.
 pub fn soon_with(started: u64, soon: u64) -> u64
     ensures { λ r. ⌜ (r ≤ soon) × ((t : ℕ) → has started t ≡ true → r ≡ 0) ⌝ }
 {
