@@ -15,6 +15,7 @@ pub mod SheetRun
 pub mod Why
 pub mod Table
 pub mod TableRun
+pub mod Stations
 pub mod Walk
 pub mod Idle
 pub mod Compile
@@ -31,6 +32,7 @@ pub mod NamedEvents
 pub mod FiredAlternatives
 pub mod Reasons
 pub mod ModeAges
+pub mod TickAllowance
 pub mod Promises
 pub mod Charts
 pub mod Opened

@@ -1,8 +1,8 @@
--- Lists of words: rows by a rule, places, words laid over a lent slice; which refusal is given. Assumes nothing.
+-- Lists of words: rows by a rule, places, words laid over a lent slice; which refusal is given; sums. Assumes nothing.
 use mathlib.Core.Path.{_≡_}
 use mathlib.Core.Bool.{Bool, true, false, _&&_, _||_, cond}
 use mathlib.Core.List.{List, [], _∷_, _++_}
-use Prim.Native.Nat.{ℕ, zero, suc, _<_}
+use Prim.Native.Nat.{ℕ, zero, suc, _+_, _<_}
 use lib.Dec.{eqb}
 use lib.ListN.{length, drop, getD}
 
@@ -47,3 +47,8 @@ refusedIf b e = cond b e 0
 unfoldable pub firstRefusal : List ℕ → ℕ
 firstRefusal [] = 0
 firstRefusal (e ∷ es) = let r = firstRefusal es in cond (eqb e 0) r e
+
+-- f 0 + .. + f (n - 1)
+unfoldable pub sumTo : ℕ → (ℕ → ℕ) → ℕ
+sumTo zero f = 0
+sumTo (suc n) f = sumTo n f + f n

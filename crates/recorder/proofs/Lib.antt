@@ -1,4 +1,5 @@
 pub mod TimerLaws
+pub mod NoteLaws
 pub mod TableStateLaws
 pub mod BlockPlaceLaws
 pub mod RestartLaws

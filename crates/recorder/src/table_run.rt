@@ -5,7 +5,7 @@ ghost use mathlib.Core.List.{List};
 ghost use Prim.Native.Nat.{ℕ, _+_, _*_, _^_, _≤_, _<_};
 ghost use lib.Dec.{eqb};
 ghost use lib.ListN.{length, getD};
-ghost use Rattle.sets.specs.Sets.{has, minus};
+ghost use Rattle.sets.specs.Sets.{has, minus, setOf};
 ghost use Rattle.rows.specs.Over.{fiveOf};
 ghost use Rattle.meaning.specs.Lists.{rowFrom};
 ghost use Rattle.meaning.specs.Refusal.{numberOf};
@@ -15,7 +15,7 @@ ghost use Rattle.meaning.specs.TableRun.{tableStateOk, tableTicks, tableRun};
 ghost use Rattle.run.specs.States.{stateOf};
 ghost use Rattle.run.specs.Entries.{limitsBy};
 ghost use Rattle.run.specs.Runs.{endedRun};
-ghost use Rattle.recorder.specs.Timers.{timerDelayIn, BlockTimers};
+ghost use Rattle.recorder.specs.Timers.{timerDelayIn, timersFrom, BlockTimers};
 ghost use Rattle.recorder.specs.Runs.{ranOf, TableBlockOf, fiveIn};
 use super::state::state_ok;
 use super::timers::delays;
@@ -156,11 +156,13 @@ fn ended(
     }
 }
 
-// Tick by tick, with the running timers of each block: 13, then 15.
-fn ticks_with(
+// Tick by tick, with what the table says of its timers: 13, then 15.
+pub fn ticks_with(
     table: &[u32],
     timers: &[u64],
     delays: &[u64; 64],
+    from: &[u64; 32],
+    timed: u32,
     start: State,
     inputs: &[u32],
     out: &mut [u32],
@@ -169,6 +171,8 @@ fn ticks_with(
         (tableOk (now table) ≡ true)
         × BlockTimers (now table) (now timers)
         × (now delays ≡ rowFrom 0 64 (timerDelayIn (now table)))
+        × (now from ≡ rowFrom 0 32 (timersFrom (now table)))
+        × (timed ≡ setOf 32 (λ m. not (eqb (getD (now from) m 0) 0)))
         × (tableStateOk (now table) (stateOf start) ≡ true)
         × (5 * length (now inputs) ≤ length (now out)) ⌝ }
     ensures { λ r. ⌜
@@ -176,8 +180,6 @@ fn ticks_with(
         ≡ ran (now (out .entry)) (tableTicks (now (table .entry)) (now (inputs .entry)) (stateOf start)) ⌝ }
 {
     let k = event_count(table);
-    let from = timers_from(table);
-    let timed = sources(&from);
     let readings = start.readings;
     let ages = start.ages;
     let mut ends = deadlines(readings);
@@ -209,7 +211,7 @@ fn ticks_with(
             soon = soon_after(&ends, b.timers, soon, now);
         } else {
             let to = block_at(table, timers, next);
-            let again = to.timers & started(&from, entered & timed);
+            let again = to.timers & started(from, entered & timed);
             if is_stale(b.timers, d.set, transitions::minus(to.timers, again)) {
                 return ended(table, &ends, &mut limits, out, seen, b, i, Refusal::Layout);
             }
@@ -227,7 +229,7 @@ fn ticks_with(
 }
 
 // A run that stops before any tick.
-fn stops(state: State, why: Refusal) -> Ran
+pub fn stops(state: State, why: Refusal) -> Ran
     ensures { λ r. ⌜ ((out : List ℕ) →
         ranOf r out ≡ record { done = 0; state = stateOf state; refusal = numberOf why; rounds = 0; out = out }) ⌝ }
 {
@@ -257,7 +259,9 @@ fn ticks_of_many(
 {
     let mut timers = [0u64; 4096];
     put_block_timers(table, &mut timers);
-    ticks_with(table, &timers, delays, start, inputs, out)
+    let from = timers_from(table);
+    let timed = sources(&from);
+    ticks_with(table, &timers, delays, &from, timed, start, inputs, out)
 }
 
 // Tick by tick: 13, then 15. The timers of few blocks have an array that is soon cleared.
@@ -279,7 +283,9 @@ fn ticks(table: &[u32], delays: &[u64; 64], start: State, inputs: &[u32], out: &
     }
     let mut timers = [0u64; 64];
     put_block_timers(table, &mut timers);
-    ticks_with(table, &timers, delays, start, inputs, out)
+    let from = timers_from(table);
+    let timed = sources(&from);
+    ticks_with(table, &timers, delays, &from, timed, start, inputs, out)
 }
 
 // The table run, on any table words, state, input sets and output words: 15, 14, 12, then tick by tick 13, then 15. A

@@ -16,7 +16,7 @@ use Rattle.sets.proofs.Facts.{every-e, every-i, everyIn-e, everyIn-i, size-le}
 use Rattle.sets.proofs.Membership.{has-none}
 use Rattle.sets.proofs.Members.{Turn, without-it, without-other, members-turn}
 use Rattle.sets.proofs.Widths.{everyIn-turn, everyIn-fails, everyIn-none}
-use Rattle.run.specs.Sums.{sumTo}
+use Rattle.meaning.specs.Lists.{sumTo}
 
 -- ---- the numbers below n
 

@@ -2,7 +2,7 @@
 ghost use mathlib.Core.Path.{_≡_};
 ghost use Prim.Native.Nat.{_≤_};
 ghost use lib.ListN.{length, getD};
-ghost use Rattle.run.specs.Sums.{sumTo};
+ghost use Rattle.meaning.specs.Lists.{sumTo};
 
 // The sum of at most 64 words.
 pub fn sum_of(values: &[u32]) -> u64

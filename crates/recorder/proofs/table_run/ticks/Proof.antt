@@ -31,6 +31,12 @@ slice-aggregate-put-block-timers c = search needs
 put-block-timers-requires : tie.Need-put-block-timers-requires
 put-block-timers-requires c κs = search needs
 
+timers-from-requires : tie.Need-timers-from-requires
+timers-from-requires c κs = search needs
+
+sources-requires : tie.Need-sources-requires
+sources-requires c κs = search needs
+
 slice-aggregate-ticks-with : tie.Need-slice-aggregate-ticks-with
 slice-aggregate-ticks-with c = search needs
 
@@ -47,4 +53,4 @@ pub ticks-spec : {M : Type 1} → statement M
 ticks-spec =
     tie.close
     (tie.spec stops-requires returns block-count-requires ticks-of-many-requires same-length returns-2 slice-aggregate-put-block-timers
-    put-block-timers-requires slice-aggregate-ticks-with ticks-with-requires same-length-2 returns-3)
+    put-block-timers-requires timers-from-requires sources-requires slice-aggregate-ticks-with ticks-with-requires same-length-2 returns-3)

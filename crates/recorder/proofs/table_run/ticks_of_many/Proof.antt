@@ -11,6 +11,12 @@ slice-aggregate-put-block-timers c = search needs
 put-block-timers-requires : tie.Need-put-block-timers-requires
 put-block-timers-requires c κs = let s = c .before .before .before .before in (s .pre .0, b-le _ (shape-of _ (of-true (s .pre .0))))
 
+timers-from-requires : tie.Need-timers-from-requires
+timers-from-requires c κs = search needs
+
+sources-requires : tie.Need-sources-requires
+sources-requires c κs = search needs
+
 slice-aggregate-ticks-with : tie.Need-slice-aggregate-ticks-with
 slice-aggregate-ticks-with c = search needs
 
@@ -26,4 +32,4 @@ returns c = search needs
 pub ticks-of-many-spec : {M : Type 1} → statement M
 ticks-of-many-spec =
     tie.close
-    (tie.spec slice-aggregate-put-block-timers put-block-timers-requires slice-aggregate-ticks-with ticks-with-requires same-length returns)
+    (tie.spec slice-aggregate-put-block-timers put-block-timers-requires timers-from-requires sources-requires slice-aggregate-ticks-with ticks-with-requires same-length returns)

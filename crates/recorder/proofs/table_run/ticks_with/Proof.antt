@@ -32,7 +32,7 @@ use Rattle.recorder.proofs.table_run.ticks_with.Statement.{statement}
 use Rattle.recorder.proofs.table_run.ticks_with.Tie as tie
 
 abbrev Inv-loop : tie.InvT-loop
-Inv-loop table timers delays inputs out₀ k from timed ends₀ limits₀ b₀ seen₀ soon₀ i₀ out ends limits b seen soon i =
+Inv-loop table timers delays from timed inputs out₀ k ends₀ limits₀ b₀ seen₀ soon₀ i₀ out ends limits b seen soon i =
     Known table k delays from timed
     × ReachedBlock table inputs out₀ (stateAt table (b₀ .number) ends₀ limits₀ 0) out ends (limitsBy limits out seen i) (b .number) i
     × TableBlockOf table b
@@ -40,7 +40,7 @@ Inv-loop table timers delays inputs out₀ k from timed ends₀ limits₀ b₀ s
     × ((t : ℕ) → has (b .timers) t ≡ true → soon ≤ getD ends t 0)
 
 abbrev μ-loop : tie.MeasureT-loop
-μ-loop table timers delays inputs out₀ k from timed ends₀ limits₀ b₀ seen₀ soon₀ i₀ out ends limits b seen soon i = length inputs - i
+μ-loop table timers delays from timed inputs out₀ k ends₀ limits₀ b₀ seen₀ soon₀ i₀ out ends limits b seen soon i = length inputs - i
 
 -- ---- the places that the needs go back to, each from the one after it
 
@@ -49,7 +49,7 @@ abbrev entry : tie.After-event-count Inv-loop μ-loop → tie.Start Inv-loop μ-
 entry c = c .before .before .before .before .before
 
 abbrev counted : tie.After-age-limits Inv-loop μ-loop → tie.After-event-count Inv-loop μ-loop
-counted c = c .before .before .before .before .before .before .before
+counted c = c .before .before .before .before
 
 abbrev made : tie.At-loop Inv-loop μ-loop → tie.After-age-limits Inv-loop μ-loop
 made c = c .before .before
@@ -72,7 +72,7 @@ numbered c = c .before .before .before .before
 
 -- the next block, in a turn that moves; the end of every turn
 abbrev moved : tie.After-is-stale Inv-loop μ-loop → tie.After-block-at2 Inv-loop μ-loop
-moved c = c .before .before .before .before .before
+moved c = c .before .before .before .before
 
 abbrev left : tie.After-is-stale Inv-loop μ-loop → tie.After-cell-number Inv-loop μ-loop
 left c = numbered (moved c .before .before)
@@ -120,6 +120,10 @@ may-end c =
       omega (arith, timed .reached .within, timed .reached .room),
     )
 
+-- the start has an age for each mode
+ages-many : (s : tie.Start Inv-loop μ-loop) → length (stateOf (s .args .start) .ages) ≡ 32
+ages-many s = search needs
+
 -- the state by the block, the deadlines and the limits at the start is the start
 abbrev first : tie.At-loop Inv-loop μ-loop → State
 first c = stateAt (start c .args .table .now) (c .before .block-at .result .number) (made c .before .deadlines .result) (made c .age-limits .result) 0
@@ -127,8 +131,8 @@ first c = stateAt (start c .args .table .now) (c .before .block-at .result .numb
 from-start : (c : tie.At-loop Inv-loop μ-loop) → first c ≡ stateOf (start c .args .start)
 from-start c =
     let s = start c in
-    start-state _ (of-true (s .pre .0)) (stateOf (s .args .start)) (s .pre .3) (c .before .block-at .ensures .0) (made c .before .deadlines .ensures)
-    (made c .age-limits .ensures) (search needs) (search needs)
+    start-state _ (of-true (s .pre .0)) (stateOf (s .args .start)) (s .pre .5) (c .before .block-at .ensures .0) (made c .before .deadlines .ensures)
+    (made c .age-limits .ensures) (search needs) (ages-many s)
 
 -- the cell, by the due timers and the input set
 chosen : (c : tie.After-cell-number Inv-loop μ-loop)
@@ -166,12 +170,6 @@ room c = let s = start (head c) in (cell-room (chosen c), omega (arith, s .good 
 event-count-requires : tie.Need-event-count-requires Inv-loop μ-loop
 event-count-requires c κs = head-sound _ (shape-of _ (of-true (c .before .before .before .before .pre .0)))
 
-timers-from-requires : tie.Need-timers-from-requires Inv-loop μ-loop
-timers-from-requires c κs = entry c .pre .0
-
-sources-requires : tie.Need-sources-requires Inv-loop μ-loop
-sources-requires c κs = search needs
-
 deadlines-requires : tie.Need-deadlines-requires Inv-loop μ-loop
 deadlines-requires c κs = search needs
 
@@ -181,7 +179,7 @@ age-limits-requires c κs = search needs
 block-at-requires : tie.Need-block-at-requires Inv-loop μ-loop
 block-at-requires c κs =
     let s = entry (counted c) in
-    (s .pre .0, s .pre .1, admitted _ (of-true (s .pre .0)) (stateOf (s .args .start)) (s .pre .3) .0)
+    (s .pre .0, s .pre .1, admitted _ (of-true (s .pre .0)) (stateOf (s .args .start)) (s .pre .5) .0)
 
 loop-holds : tie.Need-loop-holds Inv-loop μ-loop
 loop-holds c =
@@ -193,11 +191,11 @@ loop-holds c =
         sound = of-true (s .pre .0);
         eventsAre = count .event-count .ensures;
         delaysAre = s .pre .2;
-        timersAre = on .before .before .before .before .before .before .timers-from .ensures;
-        sourcesAre = on .before .before .before .before .sources .ensures;
+        timersAre = s .pre .3;
+        sourcesAre = s .pre .4;
       },
-      start-block _ (of-true (s .pre .0)) (stateOf (s .args .start)) (s .pre .3)
-          (b .ensures .0) (on .before .deadlines .ensures) (on .age-limits .ensures) (search needs) (omega (arith, b .ok, b .ensures .1 .1)) (s .pre .4),
+      start-block _ (of-true (s .pre .0)) (stateOf (s .args .start)) (s .pre .5)
+          (b .ensures .0) (on .before .deadlines .ensures) (on .age-limits .ensures) (search needs) (omega (arith, b .ok, b .ensures .1 .1)) (s .pre .6),
       b .ensures .1,
       ap length (on .age-limits .ensures) ∙ rowFrom-length _ 0 32,
       λ t h. omega arith,
@@ -281,7 +279,7 @@ block-at-requires-2 c κs = let cell = numbered (c .before) in (start (head cell
 
 started-requires : tie.Need-started-requires Inv-loop μ-loop
 started-requires c κs =
-    let v = head (numbered (c .before .before .before)) .loop .inv .0 in
+    let v = head (numbered (c .before .before)) .loop .inv .0 in
     from-word _ (v .sound) _ _ (v .timersAre) (v .sourcesAre)
 
 minus-requires : tie.Need-minus-requires Inv-loop μ-loop
@@ -396,28 +394,28 @@ loop-again c =
     ))
     (λ v.
     let exact =
-    ap₂ (λ (x : List ℕ) (y : ℕ). limitsBy x out′ y (l .i + 1)) (v .16) (v .18)
-    ∙ ap (λ (o : List ℕ). limitsBy (v .14 .last .0) o (v .14 .result) (l .i + 1)) out
-    ∙ v .14 .ensures .0 (l .out) (lastFour w place) refl (words-room cell) in
+    ap₂ (λ (x : List ℕ) (y : ℕ). limitsBy x out′ y (l .i + 1)) (v .15) (v .17)
+    ∙ ap (λ (o : List ℕ). limitsBy (v .13 .last .0) o (v .13 .result) (l .i + 1)) out
+    ∙ v .13 .ensures .0 (l .out) (lastFour w place) refl (words-room cell) in
     let r =
-    moves-on (chosen cell) (inv .0) (ap (λ (b : TableBlock). b .number) (v .17) ∙ v .1 .ensures .0)
+    moves-on (chosen cell) (inv .0) (ap (λ (b : TableBlock). b .number) (v .16) ∙ v .1 .ensures .0)
     refl (omega (arith, v .1 .ok))
-    (v .1 .ensures .1 .1 ∙ ap (λ (b : TableBlock). timersIn w (b .number)) (sym (v .17))) (ap (meet (v .1 .result .timers)) (v .3 .ensures))
-    (ap (λ (x : ℕ). not (eqb (minus x (minus (l .b .timers) (cell .before .due-by .result .set))) 0)) (sym (v .5 .ensures))
-    ∙ sym (v .6 .ensures) ∙ v .7 .left)
+    (v .1 .ensures .1 .1 ∙ ap (λ (b : TableBlock). timersIn w (b .number)) (sym (v .16))) (ap (meet (v .1 .result .timers)) (v .2 .ensures))
+    (ap (λ (x : ℕ). not (eqb (minus x (minus (l .b .timers) (cell .before .due-by .result .set))) 0)) (sym (v .4 .ensures))
+    ∙ sym (v .5 .ensures) ∙ v .6 .left)
     {out′ = out′} {ends′ = joined c .if2 .ends} {limits′ = limitsBy (joined c .if2 .limits) out′ (joined c .if2 .seen) (l .i + 1)} {soon = l .soon} {first = joined c .if2 .soon}
-    out (v .15 ∙ v .9 .ensures)
+    out (v .14 ∙ v .8 .ensures)
     (subst (Moved (l .i) (maskIn w (l .b .number)) (maskIn w (joined c .if2 .b .number)) entered (limitsBy (l .limits) (l .out) (l .seen) (l .i)))
     (sym (exact ∙ ap₂ (λ (was is : ℕ). enteredAt entered (l .i + 1) (enteredAt (minus is (union was entered)) (l .i) (limitsBy (l .limits) (l .out) (l .seen) (l .i))))
-    (v .11 .ensures) (v .12 .ensures ∙ ap (λ (b : TableBlock). maskIn w (b .number)) (sym (v .17)))))
+    (v .10 .ensures) (v .11 .ensures ∙ ap (λ (b : TableBlock). maskIn w (b .number)) (sym (v .16)))))
     (moved-by (l .i) (maskIn w (l .b .number)) (maskIn w (joined c .if2 .b .number)) entered (limitsBy (l .limits) (l .out) (l .seen) (l .i)) refl))
-    (inv .4) (subst (λ (n : ℕ). n ≤ l .soon) (sym (v .19)) (v .10 .ensures .0))
-    (λ u e. subst (λ (n : ℕ). n ≤ getD (joined c .if2 .ends) u 0) (sym (v .19 ∙ v .10 .ensures .1 u e)) (omega arith)) in (
+    (inv .4) (subst (λ (n : ℕ). n ≤ l .soon) (sym (v .18)) (v .9 .ensures .0))
+    (λ u e. subst (λ (n : ℕ). n ≤ getD (joined c .if2 .ends) u 0) (sym (v .18 ∙ v .9 .ensures .1 u e)) (omega arith)) in (
       inv .0,
       r .0,
-      subst (TableBlockOf w) (sym (v .17)) (v .1 .ensures .1),
-      ap length (v .16) ∙ v .14 .ensures .1,
-      λ t h. r .1 t (subst (λ (b : TableBlock). has (b .timers) t ≡ true) (v .17) h),
+      subst (TableBlockOf w) (sym (v .16)) (v .1 .ensures .1),
+      ap length (v .15) ∙ v .13 .ensures .1,
+      λ t h. r .1 t (subst (λ (b : TableBlock). has (b .timers) t ≡ true) (v .16) h),
     ))
     (joined c .if2 .came)
 
@@ -437,8 +435,7 @@ returns-3 c =
 pub ticks-with-spec : {M : Type 1} → statement M
 ticks-with-spec =
     tie.close
-    (tie.spec Inv-loop μ-loop event-count-requires timers-from-requires sources-requires deadlines-requires
-    age-limits-requires block-at-requires loop-holds mul-input shared-slice-read-input shr-if1 ended-requires
+    (tie.spec Inv-loop μ-loop event-count-requires deadlines-requires age-limits-requires block-at-requires loop-holds mul-input shared-slice-read-input shr-if1 ended-requires
     same-length returns add-now cast-due-by due-by-requires cell-number-requires mul-cell add-cell add-cell-2 mul-next
     shared-slice-read-next add-entered mul-entered shared-slice-read-entered stays-requires soon-after-requires
     block-at-requires-2 started-requires minus-requires is-stale-requires ended-requires-2 same-length-2 returns-2

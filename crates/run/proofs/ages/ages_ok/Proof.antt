@@ -11,7 +11,7 @@ use lib.ListN.{length}
 use Rattle.sets.specs.Sets.{minus, single, lowest}
 use Rattle.sets.proofs.Members.{Turn, turn}
 use Rattle.meaning.specs.Ages.{age, agesOk}
-use Rattle.run.specs.Sums.{sumTo}
+use Rattle.meaning.specs.Lists.{sumTo}
 use Rattle.run.proofs.SumLaws.{Adding, adding-start, adding-fails, adding-room, adding-turn, adding-done}
 use Rattle.run.proofs.ages.ages_ok.Statement.{statement}
 use Rattle.run.proofs.ages.ages_ok.Tie as tie

@@ -5,7 +5,7 @@ use Prim.Native.Nat.{ℕ, _+_, _-_, _≤_}
 use native.Mathlib.Nat.{le-antisymm}
 use native.Mathlib.Omega.{arith}
 use lib.ListN.{length, getD}
-use Rattle.run.specs.Sums.{sumTo}
+use Rattle.meaning.specs.Lists.{sumTo}
 use Rattle.run.proofs.SumLaws.{sum-start, sum-next, sum-le}
 use Rattle.run.proofs.sums.sum_of.Statement.{statement}
 use Rattle.run.proofs.sums.sum_of.Tie as tie
