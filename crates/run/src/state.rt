@@ -15,6 +15,7 @@ use super::sums::sum_of;
 use sets::transitions;
 
 // A mode set (0: fresh), or in a table run a block number, one reading per transition, and one age per mode.
+#[repr(C)]
 pub struct State {
     pub at: u32,
     pub readings: [u32; 64],
