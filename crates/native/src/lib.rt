@@ -11,6 +11,9 @@ ghost use Rattle.meaning.specs.Check.{sheetRefusal};
 ghost use Rattle.meaning.specs.Table.{tableOk};
 ghost use Rattle.meaning.specs.Acceptance.{acceptRefusal};
 ghost use Rattle.meaning.specs.Milliseconds.{milliseconds};
+ghost use Rattle.meaning.specs.Refusal.{numberOf};
+ghost use Rattle.meaning.specs.Stations.{serveStations};
+ghost use Rattle.stations.specs.Stations.{stationsOf};
 ghost use Rattle.native.specs.Calls.{compileCall, withinCall, sheetCall, tableCall, whyCall};
 use meaning::refusal::number;
 use reaction::why::Why;
@@ -18,6 +21,8 @@ use run::state::STATE_WORDS;
 use run::state::from_words;
 use run::state::put_state;
 use sheet::within::masks_of;
+use stations::Served;
+use stations::Station;
 
 // What is answered where too few words are lent.
 const NOTHING_DONE: u32 = 4294967295;
@@ -156,6 +161,39 @@ pub extern "C" fn modechart_table_run(
     info[0] = ran.done.0 as u64;
     put_state(state, ran.state);
     number(why)
+}
+
+// The allowance spent, stored; answers the refusal's number.
+fn put_served(served: Served, spent: &mut u64) -> u32
+    ensures { λ r. ⌜ (r ≡ numberOf (served .refusal)) × (now (spent .exit) ≡ served .spent) ⌝ }
+{
+    let why = served.refusal;
+    *spent = served.spent;
+    number(why)
+}
+
+// A station is 103 words: its state's 97, position, stopped mark, start and length of its part of the input list, start and length of its
+// part of the output list. spent: the ticks served. A refused call changes no station and no output word, and spends 0.
+#[no_mangle]
+pub extern "C" fn modechart_stations(
+    stations: &mut [Station],
+    table: &[u32],
+    inputs: &[u32],
+    out: &mut [u32],
+    allowance: u64,
+    spent: &mut u64,
+) -> u32
+    ensures { λ r. ⌜ record {
+      refusal = r;
+      spent = now (spent .exit);
+      stations = stationsOf (now (stations .exit));
+      out = now (out .exit);
+    }
+        ≡ serveStations (now (table .entry)) (stationsOf (now (stations .entry))) (now (inputs .entry)) (now (out .entry))
+        allowance ⌝ }
+{
+    let served = stations::serve(stations, table, inputs, out, allowance);
+    put_served(served, spent)
 }
 
 // A reason's number and its values put at the front of lent words; answers 0.
