@@ -41,10 +41,11 @@ FUNCTIONS = """
     alternative_that_holds Tick.numbers tick react conflict gives_way State.fresh aged readings_ok ages_ok sheet_state_ok
     table_state_ok sheet_tick run_sheet cell_tick cell_numbers compile_sheet table_words table_layout_ok block_at mask_at
     timers_of delay_of cell_at table_tick run_table""".split()
-ADDED = ["why", "Why.answer", "within_masks", "milliseconds", "check_table", "table_is_true"]
+ADDED = """
+    why Why.answer within_masks check_table table_is_true serve parts_ok has_work turn milliseconds""".split()
 # what the answers call; the second file imports the first
 CALLED = {"modechart.py": ["State", "check", "compile_sheet", "run_sheet", "run_table"],
-          "asks.py": ["why", "within_masks", "milliseconds", "check_table"]}
+          "asks.py": ["why", "within_masks", "check_table", "serve", "milliseconds"]}
 LARGE = 1.0                 # seconds from which a part of the cases is left out for forced readings
 
 
@@ -83,7 +84,8 @@ FORCED = {
     "a set of the members of a list is not larger than the list": [
         ("parse", "len(set(ends)) != len(ends)", "len(set(ends)) < len(ends)"),
         ("Chart.consistent", "len(inside) != len(self.children(m))", "len(inside) < len(self.children(m))"),
-        ("table_is_true", "len(set(masks)) != B", "len(set(masks)) < B")],
+        ("table_is_true", "len(set(masks)) != B", "len(set(masks)) < B"),
+        ("parts_ok", "len(set(owned)) != len(owned)", "len(set(owned)) < len(owned)")],
     "an atomic mode contains nothing, so it is no meeting mode": [
         ("ends_ok", "chart.kind[chart.meeting(s, t)] == 1", "chart.kind[chart.meeting(s, t)] <= 1")],
     "of two ors next to each other one has the other after it and one has the other before it": [
@@ -194,6 +196,10 @@ def cases():
         elif case in (2, 4, 11, 15):
             at += 3 + 2 * numbers[at + 2]
             at += 2 if case == 11 else (3 if case == 15 else 2) + numbers[at]
+        elif case == 16:
+            at += 5 + numbers[at + 2]
+            for _ in range(numbers[at - 1]):
+                at += 8 + 2 * numbers[at + 1]
         elif case == 17:
             at += 4 + numbers[at + 2]
         else:
@@ -262,7 +268,9 @@ ALIKE = {"source": ["target"], "target": ["source"], "entered": ["exited", "acti
          "after": ["entered"], "masks": ["blocks"],
          "blocks": ["masks"], "timers": ["cells"], "kind": ["value"], "to": ["round"], "round": ["to", "alternative"],
          "alternative": ["round"], "NEVER_ACTIVE": ["NEVER_TRIGGERED"], "NEVER_TRIGGERED": ["NEVER_ACTIVE", "GAVE_WAY"],
-         "GAVE_WAY": ["TAKEN"], "TAKEN": ["GAVE_WAY"]}
+         "GAVE_WAY": ["TAKEN"], "TAKEN": ["GAVE_WAY"], "in_from": ["out_from"], "out_from": ["in_from"],
+         "in_count": ["out_count"], "out_count": ["in_count"], "in_parts": ["out_parts"], "out_parts": ["in_parts"],
+         "start": ["end"], "position": ["mark"], "mark": ["position"], "spent": ["allowance"]}
 
 
 def is_number(node):

@@ -129,7 +129,7 @@ fn answer_sheet(
     }
 }
 
-// A case of the current table: a run, a word written, another length, another table.
+// A case of the current table, or that brings another one: a word written, another length, another table, and the rest.
 fn answer_table(buf: &mut [u8; 65536], table: &mut [u32], kind: u32, from: Left) -> Step
     requires { ⌜ (from .lent ≤ length (now table)) × (from .length ≤ from .lent) ⌝ }
     ensures { λ r. ⌜ Within r (from .words) (length (now (table .entry))) ⌝ }
@@ -139,12 +139,6 @@ fn answer_table(buf: &mut [u8; 65536], table: &mut [u32], kind: u32, from: Left)
     let length = from.length;
     let input = from.input;
     match kind {
-        4 => next(
-            table_case::table_run(buf, input, &table[..length]),
-            words,
-            lent,
-            length,
-        ),
         5 => next(
             table_case::write_word(buf, input, &mut table[..lent]),
             words,
@@ -160,6 +154,42 @@ fn answer_table(buf: &mut [u8; 65536], table: &mut [u32], kind: u32, from: Left)
             let length = read.words;
             next(read.input, words, length, length)
         }
+        _ => answer_run(
+            buf,
+            &table[..length],
+            kind,
+            Left {
+                input,
+                words,
+                lent,
+                length,
+            },
+        ),
+    }
+}
+
+// A case that leaves the current table as it is: a run of it, stations on it.
+fn answer_run(buf: &mut [u8; 65536], table: &[u32], kind: u32, from: Left) -> Step
+    requires { ⌜ from .length ≤ from .lent ⌝ }
+    ensures { λ r. ⌜ Within r (from .words) (from .lent) ⌝ }
+{
+    let words = from.words;
+    let lent = from.lent;
+    let length = from.length;
+    let input = from.input;
+    match kind {
+        4 => next(
+            table_case::table_run(buf, input, table),
+            words,
+            lent,
+            length,
+        ),
+        16 => next(
+            station_cases::serve_stations(buf, input, table),
+            words,
+            lent,
+            length,
+        ),
         _ => answer_other(
             buf,
             kind,

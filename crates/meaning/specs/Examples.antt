@@ -27,7 +27,7 @@ abbrev sheet : List ℕ
 sheet =
     3 ∷ 1 ∷ 2 ∷ 1 ∷ 0 ∷ 1 ∷ 0 ∷ 0 ∷ 0 ∷ 0 ∷ 0 ∷ 0 ∷ 16 ∷ 4 ∷ 20 ∷ 4 ∷ 1 ∷ 2 ∷ 1 ∷ 0 ∷ 2 ∷ 1 ∷ 0 ∷ 2 ∷ []
 
-abbrev table : List ℕ
+abbrev pub table : List ℕ
 table =
     1 ∷ 1 ∷ 2 ∷ 3 ∷ 0 ∷ 131074 ∷ 12 ∷ 15 ∷ 27 ∷ 15 ∷ 42 ∷ 27
     ∷ 0 ∷ 0 ∷ 0 ∷ 1 ∷ 3 ∷ 0 ∷ 3 ∷ 0 ∷ 0 ∷ 2 ∷ 7 ∷ 2 ∷ 7 ∷ 1 ∷ 0
@@ -59,7 +59,7 @@ abbrev five-ticks : List ℕ
 five-ticks = 3 ∷ 0 ∷ 3 ∷ 0 ∷ 0 ∷ 4 ∷ 2 ∷ 7 ∷ 1 ∷ 0 ∷ 0 ∷ 0 ∷ 5 ∷ 0 ∷ 0 ∷ 2 ∷ 4 ∷ 7 ∷ 2 ∷ 0 ∷ 4 ∷ 2 ∷ 7 ∷ 1 ∷ 0 ∷ []
 
 -- lent words, all 7
-abbrev lent : ℕ → List ℕ
+abbrev pub lent : ℕ → List ℕ
 lent n = replicate n 7
 
 -- the refusal of compile with enough memory
@@ -168,11 +168,11 @@ abbrev two-numbers : ℕ → ℕ → List ℕ
 two-numbers a b = a ∷ b ∷ replicate 62 0
 
 -- the ages of modes 0 to 2, all others 0
-abbrev three-ages : ℕ → ℕ → ℕ → List ℕ
+abbrev pub three-ages : ℕ → ℕ → ℕ → List ℕ
 three-ages a b c = a ∷ b ∷ c ∷ replicate 29 0
 
 -- a state with mode set x, reading r of transition 1, all others 0, and ages
-abbrev reading-1 : ℕ → ℕ → List ℕ → State
+abbrev pub reading-1 : ℕ → ℕ → List ℕ → State
 reading-1 x r ages = record { at = x; readings = 0 ∷ r ∷ replicate 62 0; ages = ages }
 
 -- the state after one tick of the sheet

@@ -37,3 +37,4 @@ pub mod Promises
 pub mod Charts
 pub mod Opened
 pub mod Examples
+pub mod StationExamples

@@ -18,6 +18,7 @@ use Rattle.meaning.specs.SheetRun.{timersOk, stateOk, tickFrom, stateAft
 use Rattle.meaning.specs.Why.{refusalOf, reasonWords, aheadOf, gaveWayIn, roundIn, reason, noTransition, whyRefusal, why}
 use Rattle.meaning.specs.Table.{wordIn, kIn, tIn, bIn, sourceIn, delayIn, offsetIn, lengthIn, endBeforeIn, maskIn, timersIn, cellsIn, cellWord, timerOk, blockOk, tableOk}
 use Rattle.meaning.specs.TableRun.{dueNumber, tableTimersOk, tableStateOk, cellOf, stateAfterCell, isStale, tableStep, tableRun}
+use Rattle.meaning.specs.Stations.{blank, hasWork, someWork, nextSet, turnRefusal, turn, turnsFrom, pass, passes, allPasses, wrongNumber, shares, partsFit, partsApart, partsOk, callRefused, serveStations}
 use Rattle.meaning.specs.Walk.{dueSet, workListFull, timersMany, cellCount, cellTick, listing, cellsFrom, walkFrom, walk}
 use Rattle.meaning.specs.Idle.{takenByBlock, takenByBlocks, idle, leavesIdle}
 use Rattle.meaning.specs.Compile.{pairsFrom, timerWord, cellWords, blockWords, tableWords, compileRefusal, compile}
@@ -90,6 +91,10 @@ unfoldable in-table-run : Unit {0}
 unfolding dueNumber tableTimersOk tableStateOk cellOf stateAfterCell isStale tableStep tableRun
 in-table-run = tt
 
+unfoldable in-stations : Unit {0}
+unfolding blank hasWork someWork nextSet turnRefusal turn turnsFrom pass passes allPasses wrongNumber shares partsFit partsApart partsOk callRefused serveStations
+in-stations = tt
+
 unfoldable in-walk : Unit {0}
 unfolding dueSet workListFull timersMany cellCount cellTick listing cellsFrom walkFrom walk takenByBlock takenByBlocks idle leavesIdle
 in-walk = tt
@@ -111,5 +116,5 @@ unfolding names
 in-named-events = tt
 
 unfoldable pub opened : Unit {0}
-unfolding in-sets in-lists in-sheet in-check in-hierarchy in-gives-way in-reaction in-within in-tick in-alternatives in-ages in-run in-sheet-run in-why in-table in-table-run in-walk in-compile in-milliseconds in-faithful in-named-events
+unfolding in-sets in-lists in-sheet in-check in-hierarchy in-gives-way in-reaction in-within in-tick in-alternatives in-ages in-run in-sheet-run in-why in-table in-table-run in-stations in-walk in-compile in-milliseconds in-faithful in-named-events
 opened = tt

@@ -16,3 +16,4 @@ pub mod ScheduleCases
 pub mod PartLaws
 pub mod BatchLaws
 pub mod TurnLaws
+pub mod ContractLaws

@@ -12,7 +12,7 @@ use Rattle.meaning.specs.declared.refusal.Refusal.the-variants.{Nothing, Layout
 use Rattle.meaning.specs.Table.{tableOk}
 use Rattle.meaning.specs.Stations.{wrongNumber}
 use Rattle.stations.specs.declared.Schedule.{Schedule}
-use Rattle.stations.specs.Serving.{stopsAt, sweeps, onceMore, firstOf, lookedOf, servedOf}
+use Rattle.stations.specs.Serving.{stopsAt, sweeps, onceMore, nextTurn, firstOf, lookedOf, servedOf}
 
 -- one more, or not
 pub digit-true : (n : ℕ) (b : Bool) → b ≡ true → n + 1 ≡ n + digit b
@@ -83,30 +83,16 @@ module _ (w : List ℕ) (count left : ℕ) where
 
 -- ---- after a look at a station's parts, and after its turns
 
--- the next station's turn
-abbrev pub nextOf : Schedule → ℕ → ℕ → Schedule
-nextOf c left working =
-    record {
-      going = true;
-      serving = c .serving;
-      at = c .at + 1;
-      count = c .count;
-      left = left;
-      turns = c .turns;
-      working = working;
-      refusal = Nothing;
-    }
-
 module _ (c : Schedule) (works : Bool) where
   module _ (well : Bool) where
     pub looked-ill : well ≡ false → lookedOf c well works ≡ stopsAt Parts (c .at + 1) (c .count) (c .left)
     unfolding lookedOf
     looked-ill e = rw e refl
 
-    pub looked-next : well ≡ true → c .at + 1 < c .count → c .serving ≡ false
-        → lookedOf c well works ≡ nextOf c (c .left) (c .working + digit works)
+    pub looked-next : well ≡ true → c .at + 1 < c .count
+        → lookedOf c well works ≡ nextTurn c false (c .left) (c .working + digit works)
     unfolding lookedOf
-    looked-next e h s = rw (e, lt-ltb (c .at + 1) (c .count) h, s) refl
+    looked-next e h = rw (e, lt-ltb (c .at + 1) (c .count) h) refl
 
     pub looked-last : well ≡ true → c .count ≤ c .at + 1
         → lookedOf c well works ≡ onceMore (c .count) (c .left) (c .working + digit works)
@@ -118,10 +104,10 @@ module _ (c : Schedule) (works : Bool) where
     unfolding servedOf
     served-spent e = rw (eq-eqb left 0 e) refl
 
-    pub served-next : (left ≡ 0 → ⊥) → c .at + 1 < c .count → c .serving ≡ true
-        → servedOf c left works ≡ nextOf c left (c .working + digit works)
+    pub served-next : (left ≡ 0 → ⊥) → c .at + 1 < c .count
+        → servedOf c left works ≡ nextTurn c true left (c .working + digit works)
     unfolding servedOf
-    served-next e h s = rw (ne-eqb left 0 e, lt-ltb (c .at + 1) (c .count) h, s) refl
+    served-next e h = rw (ne-eqb left 0 e, lt-ltb (c .at + 1) (c .count) h) refl
 
     pub served-last : (left ≡ 0 → ⊥) → c .count ≤ c .at + 1
         → servedOf c left works ≡ onceMore (c .count) left (c .working + digit works)

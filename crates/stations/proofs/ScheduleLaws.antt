@@ -11,7 +11,7 @@ use Rattle.sets.specs.Sets.{digit}
 use Rattle.sets.proofs.Tests.{is-false, below-or-not}
 use Rattle.meaning.specs.declared.refusal.Refusal.the-variants.{Nothing, Parts}
 use Rattle.stations.specs.declared.Schedule.{Schedule}
-use Rattle.stations.specs.Serving.{stopsAt, sweeps, onceMore, lookedOf, servedOf, most}
+use Rattle.stations.specs.Serving.{stopsAt, sweeps, onceMore, nextTurn, lookedOf, servedOf, most}
 
 -- ---- turns at once
 pub turns-some : (left working : ℕ) → 0 < max 1 (left / working)
@@ -46,24 +46,10 @@ once-is count left working = go (eqb left 0) (eqb working 0) refl refl
         let q = eqb-false working 0 f in
         again (omega arith) (omega arith)
 
--- ---- the next station
-abbrev pub onward : Schedule → Bool → ℕ → ℕ → Schedule
-onward c serving left working =
-    record {
-      going = true;
-      serving = serving;
-      at = c .at + 1;
-      count = c .count;
-      left = left;
-      turns = c .turns;
-      working = working;
-      refusal = Nothing;
-    }
-
 -- after a look: 19, the next station, or the last was looked at
 pub data AfterLook (c : Schedule) (well works : Bool) : Schedule → Type 0 where
   bad : well ≡ false → AfterLook c well works (stopsAt Parts (c .at + 1) (c .count) (c .left))
-  more : well ≡ true → c .at + 1 < c .count → AfterLook c well works (onward c false (c .left) (c .working + digit works))
+  more : well ≡ true → c .at + 1 < c .count → AfterLook c well works (nextTurn c false (c .left) (c .working + digit works))
   all : well ≡ true → c .count ≤ c .at + 1 → (r : Schedule) → Once (c .count) (c .left) (c .working + digit works) r
       → AfterLook c well works r
 
@@ -77,7 +63,7 @@ looked-is c well works = go well (ltb (c .at + 1) (c .count)) refl refl
     go : (x y : Bool) → well ≡ x → ltb (c .at + 1) (c .count) ≡ y
         → AfterLook c well works
         (cond (not x) (stopsAt Parts (c .at + 1) (c .count) (c .left))
-        (cond y (onward c false (c .left) k) (onceMore (c .count) (c .left) k)))
+        (cond y (nextTurn c false (c .left) k) (onceMore (c .count) (c .left) k)))
     go false y e f = bad e
     go true true e f = more e (ltb-true (c .at + 1) (c .count) f)
     go true false e f = all e (ltb-false (c .at + 1) (c .count) f) _ (once-is (c .count) (c .left) k)
@@ -85,7 +71,7 @@ looked-is c well works = go well (ltb (c .at + 1) (c .count)) refl refl
 -- after a station's turns: the allowance is spent, the next station, or it was the last
 pub data AfterTurns (c : Schedule) (left : ℕ) (works : Bool) : Schedule → Type 0 where
   spent : left ≡ 0 → AfterTurns c left works (stopsAt Nothing (c .at + 1) (c .count) left)
-  more : 0 < left → c .at + 1 < c .count → AfterTurns c left works (onward c true left (c .working + digit works))
+  more : 0 < left → c .at + 1 < c .count → AfterTurns c left works (nextTurn c true left (c .working + digit works))
   all : 0 < left → c .count ≤ c .at + 1 → (r : Schedule) → Once (c .count) left (c .working + digit works) r
       → AfterTurns c left works r
 
@@ -102,7 +88,7 @@ served-is c left works = go (eqb left 0) (ltb (c .at + 1) (c .count)) refl refl
     go : (x y : Bool) → eqb left 0 ≡ x → ltb (c .at + 1) (c .count) ≡ y
         → AfterTurns c left works
         (cond x (stopsAt Nothing (c .at + 1) (c .count) left)
-        (cond y (onward c true left k) (onceMore (c .count) left k)))
+        (cond y (nextTurn c true left k) (onceMore (c .count) left k)))
     go true y e f = spent (eqb-true left 0 e)
     go false true e f = more (some e) (ltb-true (c .at + 1) (c .count) f)
     go false false e f = all (some e) (ltb-false (c .at + 1) (c .count) f) _ (once-is (c .count) left k)

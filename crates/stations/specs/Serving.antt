@@ -43,21 +43,26 @@ firstOf w count left =
     (cond (wrongNumber count) (stopsAt Stations 0 count left)
     (record { going = true; serving = false; at = 0; count = count; left = left; turns = 0; working = 0; refusal = Nothing }))
 
+-- the next station's turn
+abbrev pub nextTurn : Schedule → Bool → ℕ → ℕ → Schedule
+nextTurn c serving left working =
+    record {
+      going = true;
+      serving = serving;
+      at = c .at + 1;
+      count = c .count;
+      left = left;
+      turns = c .turns;
+      working = working;
+      refusal = Nothing;
+    }
+
 -- after a look at a station's parts: whether they are well, and whether the station has work
 unfoldable pub lookedOf : Schedule → Bool → Bool → Schedule
 lookedOf c well works =
     cond (not well) (stopsAt Parts (c .at + 1) (c .count) (c .left))
     (cond (ltb (c .at + 1) (c .count))
-    (record {
-      going = true;
-      serving = false;
-      at = c .at + 1;
-      count = c .count;
-      left = c .left;
-      turns = c .turns;
-      working = c .working + digit works;
-      refusal = Nothing;
-    })
+    (nextTurn c false (c .left) (c .working + digit works))
     (onceMore (c .count) (c .left) (c .working + digit works)))
 
 -- after a station's turns: the ticks left, and whether the station has work
@@ -65,16 +70,7 @@ unfoldable pub servedOf : Schedule → ℕ → Bool → Schedule
 servedOf c left works =
     cond (eqb left 0) (stopsAt Nothing (c .at + 1) (c .count) left)
     (cond (ltb (c .at + 1) (c .count))
-    (record {
-      going = true;
-      serving = true;
-      at = c .at + 1;
-      count = c .count;
-      left = left;
-      turns = c .turns;
-      working = c .working + digit works;
-      refusal = Nothing;
-    })
+    (nextTurn c true left (c .working + digit works))
     (onceMore (c .count) left (c .working + digit works)))
 
 -- a number that falls with every turn
@@ -87,7 +83,12 @@ abbrev pub endOf : ℕ → Schedule → List Station → List ℕ → meaning.St
 endOf allowance c ss out =
     record { refusal = numberOf (c .refusal); spent = allowance - c .left; stations = stationsOf ss; out = out }
 
--- ---- the work words: four for the parts of each station, then what is noted of the table
+-- ---- the work words: four for the parts of each of 64 stations, then what is noted of the table, which has at most 4,096 blocks
+abbrev pub partWords : ℕ
+partWords = 256
+
+abbrev pub workWords : ℕ
+workWords = 4449
 
 -- the parts of a station, from place 4m on
 abbrev pub PartsAt : List ℕ → ℕ → Station → Type 0
@@ -120,16 +121,16 @@ module _ (w inputs : List ℕ) where
     pub here : c .at < c .count
     pub few : c .count ≤ 64
     pub counted : c .working ≤ c .at
-    pub room : length work ≡ 4449
-    pub noted : 0 < c .at → Noted w (drop 256 work)
+    pub room : length work ≡ workWords
+    pub noted : 0 < c .at → Noted w (drop partWords work)
     pub serves : c .serving ≡ true
-        → (0 < c .left) × (0 < c .turns) × Noted w (drop 256 work) × (partsWithin (length inputs) (length out) s ≡ true)
+        → (0 < c .left) × (0 < c .turns) × Noted w (drop partWords work) × (partsWithin (length inputs) (length out) s ≡ true)
 
   -- a look at the parts: they and the table are noted
   pub record Looked (s : Station) (c : Schedule) (work out : List ℕ) (t : Station) (r : Schedule) (work′ out′ : List ℕ) : Type 0 where
     pub station : t ≡ s
     pub same-out : out′ ≡ out
-    pub noted : Noted w (drop 256 work′)
+    pub noted : Noted w (drop partWords work′)
     pub others : (i : ℕ) → i < 4 * c .at → getD work′ i 0 ≡ getD work i 0
     pub parts : PartsAt work′ (c .at) s
     pub schedule : r

@@ -7,13 +7,14 @@ ghost use Prim.Native.Nat.{_-_, _<_};
 ghost use lib.ListN.{length, getD};
 ghost use Rattle.meaning.specs.Stations.{serveStations};
 ghost use Rattle.stations.specs.Stations.{unlisted, stationsOf, callOf};
-ghost use Rattle.stations.specs.Serving.{Ready, Stepped, firstOf, endOf};
+ghost use Rattle.stations.specs.Serving.{workWords, Ready, Stepped, firstOf, endOf};
 use meaning::refusal::Refusal;
 use run::state::State;
 
 mod parts;
 pub mod scheduling;
 pub mod turn;
+
 use scheduling::first_turn;
 use turn::take_turn;
 
@@ -42,6 +43,11 @@ pub struct Schedule {
     pub working: u64,
     pub refusal: Refusal,
 }
+
+// The work words of a call: four for the parts of each of 64 stations, then what is noted of the table.
+pub const PART_WORDS: usize = 256;
+
+pub const WORK_WORDS: usize = 4449;
 
 // What a call returns: the ticks served, and the refusal.
 pub struct Served {
@@ -81,7 +87,7 @@ pub fn serve_all(
     inputs: &[u32],
     out: &mut [u32],
 ) -> Schedule
-    requires { ⌜ (start ≡ firstOf (now table) (length (now stations)) (start .left)) × (length (now work) ≡ 4449) ⌝ }
+    requires { ⌜ (start ≡ firstOf (now table) (length (now stations)) (start .left)) × (length (now work) ≡ workWords) ⌝ }
     ensures { λ r. ⌜
         endOf (start .left) r (now (stations .exit)) (now (out .exit))
         ≡ serveStations (now (table .entry)) (stationsOf (now (stations .entry))) (now (inputs .entry)) (now (out .entry)) (start .left) ⌝ }
@@ -127,7 +133,7 @@ pub fn serve(
 {
     let count = stations.len();
     let start = first_turn(table, count, allowance);
-    let mut work = [0u64; 4449];
+    let mut work = [0u64; WORK_WORDS];
     let end = serve_all(stations, start, &mut work, table, inputs, out);
     answer(allowance, end)
 }

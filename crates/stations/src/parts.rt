@@ -5,7 +5,7 @@ ghost use lib.Dec.{ltb};
 ghost use lib.ListN.{length, getD, drop};
 ghost use Rattle.sets.specs.Sets.{every};
 ghost use Rattle.meaning.specs.Stations.{shares};
-ghost use Rattle.stations.specs.Serving.{PartsAt, apartFrom, partsWithin};
+ghost use Rattle.stations.specs.Serving.{partWords, PartsAt, apartFrom, partsWithin};
 use super::Station;
 
 // They end within an input list and an output list, with 5 words for each set.
@@ -49,7 +49,7 @@ fn share(start: u64, length: u64, start2: u64, length2: u64) -> bool
 
 // The parts of a station share no word with those noted in place m.
 fn apart_from(work: &[u64], m: usize, s: Station) -> bool
-    requires { ⌜ (m < 64) × (256 ≤ length (now work)) ⌝ }
+    requires { ⌜ (m < 64) × (partWords ≤ length (now work)) ⌝ }
     ensures { λ r. ⌜ r ≡ apartFrom (now (work .entry)) s m ⌝ }
 {
     let p = 4 * m;
@@ -66,7 +66,7 @@ fn apart_from(work: &[u64], m: usize, s: Station) -> bool
 
 // The parts of the stations before this one share no word with its own.
 pub fn apart(work: &[u64], at: usize, s: Station) -> bool
-    requires { ⌜ (at ≤ 64) × (256 ≤ length (now work)) ⌝ }
+    requires { ⌜ (at ≤ 64) × (partWords ≤ length (now work)) ⌝ }
     ensures { λ r. ⌜ r ≡ every at (apartFrom (now (work .entry)) s) ⌝ }
 {
     let mut m = 0;
@@ -81,11 +81,11 @@ pub fn apart(work: &[u64], at: usize, s: Station) -> bool
 
 // A station's parts are noted.
 pub fn put_parts(work: &mut [u64], at: usize, s: Station)
-    requires { ⌜ (at < 64) × (256 ≤ length (now work)) ⌝ }
+    requires { ⌜ (at < 64) × (partWords ≤ length (now work)) ⌝ }
     ensures { λ _. ⌜
         PartsAt (now (work .exit)) at s
         × ((i : ℕ) → i < 4 * at → getD (now (work .exit)) i 0 ≡ getD (now (work .entry)) i 0)
-        × (drop 256 (now (work .exit)) ≡ drop 256 (now (work .entry))) ⌝ }
+        × (drop partWords (now (work .exit)) ≡ drop partWords (now (work .entry))) ⌝ }
 {
     let p = 4 * at;
     work[p] = s.in_start as u64;

@@ -4,7 +4,7 @@ ghost use mathlib.Core.Bool.{true, false};
 ghost use Prim.Native.Nat.{_+_, _<_, _≤_};
 ghost use Rattle.sets.specs.Sets.{digit};
 ghost use Rattle.meaning.specs.declared.refusal.Refusal.the-variants.{Nothing};
-ghost use Rattle.stations.specs.Serving.{stopsAt, sweeps, onceMore, firstOf, lookedOf, servedOf};
+ghost use Rattle.stations.specs.Serving.{stopsAt, sweeps, onceMore, nextTurn, firstOf, lookedOf, servedOf};
 use super::Schedule;
 use meaning::refusal::Refusal;
 use table::table_ok;
@@ -93,22 +93,13 @@ fn with_work(working: u64, works: bool) -> u64
 }
 
 // The next station's turn.
-fn next(c: Schedule, left: u64, working: u64) -> Schedule
+fn next(c: Schedule, serving: bool, left: u64, working: u64) -> Schedule
     requires { ⌜ c .at < c .count ⌝ }
-    ensures { λ r. ⌜ r ≡ record {
-      going = true;
-      serving = c .serving;
-      at = c .at + 1;
-      count = c .count;
-      left = left;
-      turns = c .turns;
-      working = working;
-      refusal = Nothing;
-    } ⌝ }
+    ensures { λ r. ⌜ r ≡ nextTurn c serving left working ⌝ }
 {
     Schedule {
         going: true,
-        serving: c.serving,
+        serving,
         at: c.at + 1,
         count: c.count,
         left,
@@ -120,7 +111,7 @@ fn next(c: Schedule, left: u64, working: u64) -> Schedule
 
 // After a look at a station's parts: 19 if they are not well.
 pub fn looked(c: Schedule, well: bool, works: bool) -> Schedule
-    requires { ⌜ (c .at < c .count) × (c .working ≤ 64) × (c .serving ≡ false) ⌝ }
+    requires { ⌜ (c .at < c .count) × (c .working ≤ 64) ⌝ }
     ensures { λ r. ⌜ r ≡ lookedOf c well works ⌝ }
 {
     if !well {
@@ -128,14 +119,14 @@ pub fn looked(c: Schedule, well: bool, works: bool) -> Schedule
     }
     let working = with_work(c.working, works);
     if c.at + 1 < c.count {
-        return next(c, c.left, working);
+        return next(c, false, c.left, working);
     }
     once_more(c.count, c.left, working)
 }
 
 // After a station's turns.
 pub fn served(c: Schedule, left: u64, works: bool) -> Schedule
-    requires { ⌜ (c .at < c .count) × (c .working ≤ 64) × (c .serving ≡ true) ⌝ }
+    requires { ⌜ (c .at < c .count) × (c .working ≤ 64) ⌝ }
     ensures { λ r. ⌜ r ≡ servedOf c left works ⌝ }
 {
     if left == 0 {
@@ -143,7 +134,7 @@ pub fn served(c: Schedule, left: u64, works: bool) -> Schedule
     }
     let working = with_work(c.working, works);
     if c.at + 1 < c.count {
-        return next(c, left, working);
+        return next(c, true, left, working);
     }
     once_more(c.count, left, working)
 }

@@ -9,17 +9,18 @@ ghost use Rattle.meaning.specs.Table.{tableOk};
 ghost use Rattle.meaning.specs.Stations.{hasWork};
 ghost use Rattle.recorder.specs.Timers.{Noted};
 ghost use Rattle.stations.specs.Stations.{stationOf};
-ghost use Rattle.stations.specs.Serving.{apartFrom, partsWithin, Ready, Looked, Given, Turned};
+ghost use Rattle.stations.specs.Serving.{partWords, workWords, apartFrom, partsWithin, Ready, Looked, Given, Turned};
+use super::PART_WORDS;
 use super::Schedule;
 use super::Station;
-use recorder::notes::put_notes;
-use recorder::notes::run_noted;
 use super::parts::apart;
 use super::parts::parts_within;
 use super::parts::put_parts;
 use super::scheduling::looked;
 use super::scheduling::served;
 use meaning::refusal::number;
+use recorder::notes::put_notes;
+use recorder::notes::run_noted;
 use recorder::table_run::Ran;
 
 // The station and the schedule after its turn.
@@ -42,20 +43,20 @@ fn has_work(s: Station) -> bool
 fn note_table(table: &[u32], work: &mut [u64], at: usize)
     requires { ⌜
         (tableOk (now table) ≡ true)
-        × (length (now work) ≡ 4449)
-        × (0 < at → Noted (now table) (drop 256 (now work))) ⌝ }
+        × (length (now work) ≡ workWords)
+        × (0 < at → Noted (now table) (drop partWords (now work))) ⌝ }
     ensures { λ _. ⌜
-        Noted (now (table .entry)) (drop 256 (now (work .exit)))
-        × ((i : ℕ) → i < 256 → getD (now (work .exit)) i 0 ≡ getD (now (work .entry)) i 0) ⌝ }
+        Noted (now (table .entry)) (drop partWords (now (work .exit)))
+        × ((i : ℕ) → i < partWords → getD (now (work .exit)) i 0 ≡ getD (now (work .entry)) i 0) ⌝ }
 {
     if at == 0 {
-        put_notes(table, &mut work[256..]);
+        put_notes(table, &mut work[PART_WORDS..]);
     }
 }
 
 // A station's parts fit their lists, and share no word with those of the stations before it.
 fn parts_well(work: &[u64], at: usize, s: Station, sets: usize, words: usize) -> bool
-    requires { ⌜ (at ≤ 64) × (256 ≤ length (now work)) ⌝ }
+    requires { ⌜ (at ≤ 64) × (partWords ≤ length (now work)) ⌝ }
     ensures { λ r. ⌜ r ≡ (partsWithin sets words s && every at (apartFrom (now (work .entry)) s)) ⌝ }
 {
     if !parts_within(sets, words, s) {
@@ -148,7 +149,13 @@ fn give_turns(
     let e = i + n;
     let o = (s.out_start as usize) + 5 * (s.position as usize);
     let f = o + 5 * n;
-    let ran = run_noted(table, &work[256..], s.state, &inputs[i..e], &mut out[o..f]);
+    let ran = run_noted(
+        table,
+        &work[PART_WORDS..],
+        s.state,
+        &inputs[i..e],
+        &mut out[o..f],
+    );
     let station = after_run(s, ran);
     let done = ran.done.0;
     let left = c.left - (done as u64);

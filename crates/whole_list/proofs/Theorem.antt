@@ -59,12 +59,12 @@ compile-leaves P h c passed =
     subst (λ (x : Compiled). P sheet (take (x .tableLength) (x .table))) (sym told)
     (h sheet (now (c .lent .1 .0)) (now (c .lent .1 .1 .0)) (ap (λ (x : Compiled). x .refusal) (sym told) ∙ passed))
 
-compile-accepted : (c : CompileCall) → numberOf (c .returned .refusal) ≡ 0 → Accepted (sheetWords c) (tableWords c)
+pub compile-accepted : (c : CompileCall) → numberOf (c .returned .refusal) ≡ 0 → Accepted (sheetWords c) (tableWords c)
 unfolding CompiledAccepted
 compile-accepted = compile-leaves Accepted compiled-accepted
 
 -- one check of a table
-check-is : (c : AcceptCall) → numberOf (c .returned) ≡ acceptRefusal (sheetChecked c) (tableChecked c)
+pub check-is : (c : AcceptCall) → numberOf (c .returned) ≡ acceptRefusal (sheetChecked c) (tableChecked c)
 unfolding sheetChecked tableChecked
 check-is c = accept-tells (c .lifetimes) (c .lent) (c .returned) (c .left) (c .contract)
 

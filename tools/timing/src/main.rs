@@ -1,5 +1,5 @@
-// timing [SECONDS] [large | sizes]: compile, the check of a table, table run, sheet run, what a call works out before its first tick,
-// masks, why a transition stayed put and milliseconds, ours beside the hand-optimised Rust version, in turns on the same sheets,
+// timing [SECONDS] [large | sizes]: compile, the check of a table, table run, stations, sheet run, what a call works out before its first
+// tick, masks, why a transition stayed put and milliseconds, ours beside the hand-optimised Rust version, in turns on the same sheets,
 // inputs and buffers (warm, not cleared). Every word of table, work list, output and state, and every number and reason, is compared
 // first.
 // With BEFORE_DIR set at build, our operations as they were at an earlier commit are timed in the same turns; with MODEL_DIR, the
@@ -14,6 +14,7 @@ mod milliseconds;
 mod model;
 mod ours;
 mod states;
+mod stations;
 mod why;
 mod within;
 
@@ -215,6 +216,7 @@ fn main() {
         acceptance::time_acceptance(&c, budget);
         states::compare_states(&c);
         time_table_runs(&c, budget);
+        stations::time_stations(&c, budget);
         time_sheet_runs(&c, budget);
         within::time_masks(&c.name, &c.sheet, budget);
         why::time_reasons(&c, budget);

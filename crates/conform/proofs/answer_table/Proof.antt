@@ -6,18 +6,6 @@ use borrow.Author.Needs.{needs}
 use Rattle.conform.proofs.answer_table.Statement.{statement}
 use Rattle.conform.proofs.answer_table.Tie as tie
 
-slice-reshare-prefix-table-run : tie.Need-slice-reshare-prefix-table-run
-slice-reshare-prefix-table-run c = search needs
-
-slice-aggregate-table-run : tie.Need-slice-aggregate-table-run
-slice-aggregate-table-run c = simp length-take (search needs)
-
-table-run-requires : tie.Need-table-run-requires
-table-run-requires c κs = search needs
-
-next-requires : tie.Need-next-requires
-next-requires c κs = search needs
-
 slice-relend-prefix-write-word : tie.Need-slice-relend-prefix-write-word
 slice-relend-prefix-write-word c = search needs
 
@@ -27,8 +15,8 @@ slice-aggregate-write-word c = simp length-take (search needs)
 write-word-requires : tie.Need-write-word-requires
 write-word-requires c κs = search needs
 
-next-requires-2 : tie.Need-next-requires-2
-next-requires-2 c κs = search needs
+next-requires : tie.Need-next-requires
+next-requires c κs = search needs
 
 number-requires : tie.Need-number-requires
 number-requires c κs = search needs
@@ -36,17 +24,23 @@ number-requires c κs = search needs
 at-most-requires : tie.Need-at-most-requires
 at-most-requires c κs = search needs
 
-next-requires-3 : tie.Need-next-requires-3
-next-requires-3 c κs = search needs
+next-requires-2 : tie.Need-next-requires-2
+next-requires-2 c κs = search needs
 
 read-words-requires : tie.Need-read-words-requires
 read-words-requires c κs = search needs
 
-next-requires-4 : tie.Need-next-requires-4
-next-requires-4 c κs = search needs
+next-requires-3 : tie.Need-next-requires-3
+next-requires-3 c κs = search needs
 
-answer-other-requires : tie.Need-answer-other-requires
-answer-other-requires c κs = search needs
+slice-reshare-prefix-answer-run : tie.Need-slice-reshare-prefix-answer-run
+slice-reshare-prefix-answer-run c = search needs
+
+slice-aggregate-answer-run : tie.Need-slice-aggregate-answer-run
+slice-aggregate-answer-run c = simp length-take (search needs)
+
+answer-run-requires : tie.Need-answer-run-requires
+answer-run-requires c κs = search needs
 
 same-length : tie.Need-same-length
 same-length c = search needs
@@ -54,11 +48,11 @@ same-length c = search needs
 returns : tie.Need-returns
 returns c = search (needs, within-le)
 
-same-length-2 : tie.Need-same-length-2
-same-length-2 c = search needs
-
 returns-2 : tie.Need-returns-2
 returns-2 c = search (needs, within-le)
+
+same-length-2 : tie.Need-same-length-2
+same-length-2 c = search needs
 
 returns-3 : tie.Need-returns-3
 returns-3 c = search (needs, within-le)
@@ -69,13 +63,10 @@ same-length-3 c = search needs
 returns-4 : tie.Need-returns-4
 returns-4 c = search (needs, within-le)
 
-returns-5 : tie.Need-returns-5
-returns-5 c = search (needs, within-le)
-
 pub answer-table-spec : {M : Type 1} → statement M
 answer-table-spec =
     tie.close
-    (tie.spec slice-reshare-prefix-table-run slice-aggregate-table-run table-run-requires next-requires
-    slice-relend-prefix-write-word slice-aggregate-write-word write-word-requires next-requires-2 number-requires
-    at-most-requires next-requires-3 read-words-requires next-requires-4 answer-other-requires same-length returns
-    same-length-2 returns-2 returns-3 same-length-3 returns-4 returns-5)
+    (tie.spec slice-relend-prefix-write-word slice-aggregate-write-word write-word-requires next-requires
+    number-requires at-most-requires next-requires-2 read-words-requires next-requires-3 slice-reshare-prefix-answer-run
+    slice-aggregate-answer-run answer-run-requires same-length returns returns-2 same-length-2 returns-3 same-length-3
+    returns-4)

@@ -46,7 +46,6 @@ use denote.Triple.Clauses.{ensured, lasts}
 use denote.Triple.Table.{entered, cited}
 use denote.Triple.Walked.{says, needs, Stays, stay-dropped, gave-slice, walkOf, AllGo, goes-dropped, goes-gave-slice, Walks, ends-at, walked, walk-meets}
 use denote.Exit.{yes}
-
 use Rattle.stations.specs.declared.Station.{Station}
 use Rattle.stations.specs.declared.Schedule.{Schedule}
 use Rattle.stations.specs.Stations.{unlisted}
@@ -468,7 +467,6 @@ module _ {M : Type 1} (𝓤 : URA M) (H : Heap 𝓤) (A : Atoms 𝓤) (W : Given
 
     -- the code up to the loop
     walk : Is S.the-row c (mach-c c ∷ []) → Begins → ent 𝓤 (onEntry 𝓤 H A all.signature κs qs a vals) (WpFn 𝓤 H (𝓣 .C) (𝓣 .Λ) code.function (slice x ∷ mach-c c ∷ slice k ∷ slice w ∷ slice i ∷ slice o ∷ []) Post)
-
     walk c-is needed =
         qed W ((K₀ ⊛ K₁ ⊛ K₂ ⊛ K₃ ⊛ K₄ ⊛ ‵ ftrue) ∷ ‵ (owns (MutSlice (named 0) (κs .0) T.the-row ∷ S.the-row ∷ MutSlice (named 1) (κs .1 .0) u64 ∷ ShrSlice (named 2) (κs .1 .1 .0) u32 ∷ ShrSlice (named 3) (κs .1 .1 .1 .0) u32 ∷ MutSlice (named 4) (κs .1 .1 .1 .1 .0) u32 ∷ []) a vals) ∷ []) ∵
         enter ! (𝓣 .C) (𝓣 .Λ) code.function (slice x ∷ mach-c c ∷ slice k ∷ slice w ∷ slice i ∷ slice o ∷ []) _ $
@@ -495,11 +493,19 @@ module _ {M : Type 1} (𝓤 : URA M) (H : Heap 𝓤) (A : Atoms 𝓤) (W : Given
   goes : AllGo 𝓤 H A W 5 (all.signature .params) (all.ended .kept) stayed
   goes = (
     goes-gave-slice 𝓤 H A W 5 0 tt (plain (λ _. T.the-row)),
-    (goes-dropped 𝓤 H A W 5 (plain (λ _. S.the-row)) yes (λ κs x f. refl),
-    (goes-gave-slice 𝓤 H A W 5 1 tt (plain (λ _. u64)),
-    (goes-dropped 𝓤 H A W 5 (shrSliceOf (2 ∷ []) tt (plain (λ _. u32))) yes (λ κs x f. refl),
-    (goes-dropped 𝓤 H A W 5 (shrSliceOf (3 ∷ []) tt (plain (λ _. u32))) yes (λ κs x f. refl),
-    (goes-gave-slice 𝓤 H A W 5 4 tt (plain (λ _. u32)), tt))))),
+    (
+      goes-dropped 𝓤 H A W 5 (plain (λ _. S.the-row)) yes (λ κs x f. refl),
+      (
+        goes-gave-slice 𝓤 H A W 5 1 tt (plain (λ _. u64)),
+        (
+          goes-dropped 𝓤 H A W 5 (shrSliceOf (2 ∷ []) tt (plain (λ _. u32))) yes (λ κs x f. refl),
+          (
+            goes-dropped 𝓤 H A W 5 (shrSliceOf (3 ∷ []) tt (plain (λ _. u32))) yes (λ κs x f. refl),
+            (goes-gave-slice 𝓤 H A W 5 4 tt (plain (λ _. u32)), tt),
+          ),
+        ),
+      ),
+    ),
   )
 
 all-meets : {M : Type 1} (𝓤 : URA M) (H : Heap 𝓤) (A : Atoms 𝓤) → Given 𝓤 H A → (mem : Memory → SProp 𝓤) (run : Routine → Fun 𝓤) (𝓣 : Tables 𝓤 H) → Triple 𝓤 (𝓣 .C #stations·serve-one) (Serve 𝓤 H A mem run)

@@ -40,7 +40,6 @@ use denote.Triple.Clauses.{ensured, lasts}
 use denote.Triple.Table.{entered, cited}
 use denote.Triple.Walked.{says, needs, Stays, stay-dropped, gave-slice, walkOf, AllGo, goes-dropped, goes-gave-slice, Walks, ends-at, walked, walk-meets}
 use denote.Exit.{yes}
-
 use Rattle.stations.specs.declared.Station.{Station}
 use Rattle.stations.specs.declared.Schedule.{Schedule}
 use Rattle.stations.specs.declared.turn.Turn.{Turn}
@@ -230,11 +229,19 @@ module _ {M : Type 1} (𝓤 : URA M) (H : Heap 𝓤) (A : Atoms 𝓤) (W : Given
   goes : AllGo 𝓤 H A W 5 (serve.signature .params) (serve.ended .kept) stayed
   goes = (
     goes-gave-slice 𝓤 H A W 5 0 tt (plain (λ _. T.the-row)),
-    (goes-dropped 𝓤 H A W 5 (plain (λ _. S.the-row)) yes (λ κs x f. refl),
-    (goes-gave-slice 𝓤 H A W 5 1 tt (plain (λ _. u64)),
-    (goes-dropped 𝓤 H A W 5 (shrSliceOf (2 ∷ []) tt (plain (λ _. u32))) yes (λ κs x f. refl),
-    (goes-dropped 𝓤 H A W 5 (shrSliceOf (3 ∷ []) tt (plain (λ _. u32))) yes (λ κs x f. refl),
-    (goes-gave-slice 𝓤 H A W 5 4 tt (plain (λ _. u32)), tt))))),
+    (
+      goes-dropped 𝓤 H A W 5 (plain (λ _. S.the-row)) yes (λ κs x f. refl),
+      (
+        goes-gave-slice 𝓤 H A W 5 1 tt (plain (λ _. u64)),
+        (
+          goes-dropped 𝓤 H A W 5 (shrSliceOf (2 ∷ []) tt (plain (λ _. u32))) yes (λ κs x f. refl),
+          (
+            goes-dropped 𝓤 H A W 5 (shrSliceOf (3 ∷ []) tt (plain (λ _. u32))) yes (λ κs x f. refl),
+            (goes-gave-slice 𝓤 H A W 5 4 tt (plain (λ _. u32)), tt),
+          ),
+        ),
+      ),
+    ),
   )
 
 serve-meets : {M : Type 1} (𝓤 : URA M) (H : Heap 𝓤) (A : Atoms 𝓤) → Given 𝓤 H A → (at-mem : Memory → SProp 𝓤) (run : Routine → Fun 𝓤) (𝓣 : Tables 𝓤 H) → Triple 𝓤 (𝓣 .C #stations·turn·take-turn) (Tick 𝓤 H A at-mem run)

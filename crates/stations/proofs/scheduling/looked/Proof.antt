@@ -1,9 +1,10 @@
 -- `stations::scheduling::looked` meets its contract. Assumes nothing.
 use mathlib.Core.Path.{sym, ap, _∙_}
+use mathlib.Core.Bool.{false}
 use borrow.Author.Needs.{needs}
 use borrow.Author.Tests.{not-true, not-false}
-use Rattle.stations.specs.Serving.{onceMore}
-use Rattle.stations.proofs.ScheduleCases.{nextOf, looked-ill, looked-next, looked-last}
+use Rattle.stations.specs.Serving.{onceMore, nextTurn}
+use Rattle.stations.proofs.ScheduleCases.{looked-ill, looked-next, looked-last}
 use Rattle.stations.proofs.scheduling.looked.Statement.{statement}
 use Rattle.stations.proofs.scheduling.looked.Tie as tie
 
@@ -34,8 +35,8 @@ returns-2 c =
     let w = counted (c .before .before) in
     let b = w .before .before in
     let s = b .args .c in
-    c .next .ensures ∙ ap (nextOf s (s .left)) (w .with-work .ensures)
-    ∙ sym (looked-next s (b .args .works) _ (not-false _ (w .before .if1 .left)) (c .before .if2 .taken) (b .pre .2))
+    c .next .ensures ∙ ap (nextTurn s false (s .left)) (w .with-work .ensures)
+    ∙ sym (looked-next s (b .args .works) _ (not-false _ (w .before .if1 .left)) (c .before .if2 .taken))
 
 once-more-requires : tie.Need-once-more-requires
 once-more-requires c κs = search needs

@@ -1,8 +1,9 @@
 -- `stations::scheduling::served` meets its contract. Assumes nothing.
 use mathlib.Core.Path.{sym, ap, _∙_}
+use mathlib.Core.Bool.{true}
 use borrow.Author.Needs.{needs}
-use Rattle.stations.specs.Serving.{onceMore}
-use Rattle.stations.proofs.ScheduleCases.{nextOf, served-spent, served-next, served-last}
+use Rattle.stations.specs.Serving.{onceMore, nextTurn}
+use Rattle.stations.proofs.ScheduleCases.{served-spent, served-next, served-last}
 use Rattle.stations.proofs.scheduling.served.Statement.{statement}
 use Rattle.stations.proofs.scheduling.served.Tie as tie
 
@@ -33,8 +34,8 @@ returns-2 c =
     let w = counted (c .before .before) in
     let b = w .before .before in
     let s = b .args .c in
-    c .next .ensures ∙ ap (nextOf s (b .args .left)) (w .with-work .ensures)
-    ∙ sym (served-next s (b .args .works) _ (w .before .if1 .left) (c .before .if2 .taken) (b .pre .2))
+    c .next .ensures ∙ ap (nextTurn s true (b .args .left)) (w .with-work .ensures)
+    ∙ sym (served-next s (b .args .works) _ (w .before .if1 .left) (c .before .if2 .taken))
 
 once-more-requires : tie.Need-once-more-requires
 once-more-requires c κs = search needs

@@ -137,7 +137,7 @@ served-requires c κs =
     let a = p .0 .here in
     let b = p .0 .few in
     let d = p .0 .counted in
-    (a, omega arith, p .1)
+    (a, omega arith)
 
 same-length : tie.Need-same-length
 same-length c = search needs
