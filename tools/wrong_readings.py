@@ -157,7 +157,6 @@ FORCED = {
         ("table_is_true", "masks[0] != 0", "masks[0] < 0")],
     "with a smaller T there are fewer timer words, with a smaller k the last cell would lie past the table's end": [
         ("table_is_true", "(k, T) != (chart.k, chart.T)", "(k, T) > (chart.k, chart.T)")],
-    "a mask has 32 bits, so a mode 32 is inactive, and an age of 0 is not shown": [("aged", "range(32)", "range(33)")],
     "each block lies within the words": [("table_layout_ok", "end == len(table)", "end >= len(table)")],
 }
 

@@ -129,7 +129,7 @@ fn answer_sheet(
     }
 }
 
-// A case of the current table, or that brings another one: a word written, another length, another table, and the rest.
+// A case that changes the current table: a word written, another length, another table.
 fn answer_table(buf: &mut [u8; 65536], table: &mut [u32], kind: u32, from: Left) -> Step
     requires { ⌜ (from .lent ≤ length (now table)) × (from .length ≤ from .lent) ⌝ }
     ensures { λ r. ⌜ Within r (from .words) (length (now (table .entry))) ⌝ }

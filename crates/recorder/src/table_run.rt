@@ -18,6 +18,7 @@ ghost use Rattle.run.specs.Runs.{endedRun};
 ghost use Rattle.recorder.specs.Timers.{timerDelayIn, timersFrom, BlockTimers};
 ghost use Rattle.recorder.specs.Runs.{ranOf, TableBlockOf, fiveIn};
 use super::state::state_ok;
+use super::timers::copied;
 use super::timers::delays;
 use super::timers::put_block_timers;
 use super::timers::sources;
@@ -161,7 +162,7 @@ pub fn ticks_with(
     table: &[u32],
     timers: &[u64],
     delays: &[u64; 64],
-    from: &[u64; 32],
+    by_source: &[u64; 32],
     timed: u32,
     start: State,
     inputs: &[u32],
@@ -171,8 +172,8 @@ pub fn ticks_with(
         (tableOk (now table) ≡ true)
         × BlockTimers (now table) (now timers)
         × (now delays ≡ rowFrom 0 64 (timerDelayIn (now table)))
-        × (now from ≡ rowFrom 0 32 (timersFrom (now table)))
-        × (timed ≡ setOf 32 (λ m. not (eqb (getD (now from) m 0) 0)))
+        × (now «by_source» ≡ rowFrom 0 32 (timersFrom (now table)))
+        × (timed ≡ setOf 32 (λ m. not (eqb (getD (now «by_source») m 0) 0)))
         × (tableStateOk (now table) (stateOf start) ≡ true)
         × (5 * length (now inputs) ≤ length (now out)) ⌝ }
     ensures { λ r. ⌜
@@ -180,6 +181,7 @@ pub fn ticks_with(
         ≡ ran (now (out .entry)) (tableTicks (now (table .entry)) (now (inputs .entry)) (stateOf start)) ⌝ }
 {
     let k = event_count(table);
+    let from = copied(by_source);
     let readings = start.readings;
     let ages = start.ages;
     let mut ends = deadlines(readings);
@@ -211,7 +213,7 @@ pub fn ticks_with(
             soon = soon_after(&ends, b.timers, soon, now);
         } else {
             let to = block_at(table, timers, next);
-            let again = to.timers & started(from, entered & timed);
+            let again = to.timers & started(&from, entered & timed);
             if is_stale(b.timers, d.set, transitions::minus(to.timers, again)) {
                 return ended(table, &ends, &mut limits, out, seen, b, i, Refusal::Layout);
             }

@@ -50,6 +50,20 @@ pub fn timers_from(table: &[u32]) -> [u64; 32]
     r
 }
 
+// The same, in an array of its own: a run's loop reads it beside its other arrays, and keeps no address for it.
+pub fn copied(from: &[u64; 32]) -> [u64; 32]
+    requires { ⌜ length (now from) ≡ 32 ⌝ }
+    ensures { λ r. ⌜ r ≡ now (from .entry) ⌝ }
+{
+    let mut r = [0u64; 32];
+    let mut m = 0;
+    while m < 32 {
+        r[m] = from[m];
+        m += 1;
+    }
+    r
+}
+
 // The modes that are the source of a timer.
 pub fn sources(from: &[u64; 32]) -> u32
     ensures { λ r. ⌜ r ≡ setOf 32 (λ m. not (eqb (getD (now (from .entry)) m 0) 0)) ⌝ }

@@ -9,7 +9,7 @@ use Prim.Native.Nat.{ℕ, _+_, _-_, _*_, _/_, _^_, _≤_, _<_}
 use native.Mathlib.Omega.{arith}
 use lib.Dec.{eqb, eqb→eq}
 use lib.ListN.{length, getD}
-use Rattle.sets.specs.Sets.{has, union, meet, minus, members}
+use Rattle.sets.specs.Sets.{has, setOf, union, meet, minus, members}
 use Rattle.sets.proofs.Tests.{of-true, and-r}
 use Rattle.rows.specs.Over.{over}
 use Rattle.meaning.proofs.ListLaws.{rowFrom-length}
@@ -32,7 +32,7 @@ use Rattle.recorder.proofs.table_run.ticks_with.Statement.{statement}
 use Rattle.recorder.proofs.table_run.ticks_with.Tie as tie
 
 abbrev Inv-loop : tie.InvT-loop
-Inv-loop table timers delays from timed inputs out₀ k ends₀ limits₀ b₀ seen₀ soon₀ i₀ out ends limits b seen soon i =
+Inv-loop table timers delays bySource timed inputs out₀ k from ends₀ limits₀ b₀ seen₀ soon₀ i₀ out ends limits b seen soon i =
     Known table k delays from timed
     × ReachedBlock table inputs out₀ (stateAt table (b₀ .number) ends₀ limits₀ 0) out ends (limitsBy limits out seen i) (b .number) i
     × TableBlockOf table b
@@ -40,7 +40,7 @@ Inv-loop table timers delays from timed inputs out₀ k ends₀ limits₀ b₀ s
     × ((t : ℕ) → has (b .timers) t ≡ true → soon ≤ getD ends t 0)
 
 abbrev μ-loop : tie.MeasureT-loop
-μ-loop table timers delays from timed inputs out₀ k ends₀ limits₀ b₀ seen₀ soon₀ i₀ out ends limits b seen soon i = length inputs - i
+μ-loop table timers delays bySource timed inputs out₀ k from ends₀ limits₀ b₀ seen₀ soon₀ i₀ out ends limits b seen soon i = length inputs - i
 
 -- ---- the places that the needs go back to, each from the one after it
 
@@ -49,7 +49,7 @@ abbrev entry : tie.After-event-count Inv-loop μ-loop → tie.Start Inv-loop μ-
 entry c = c .before .before .before .before .before
 
 abbrev counted : tie.After-age-limits Inv-loop μ-loop → tie.After-event-count Inv-loop μ-loop
-counted c = c .before .before .before .before
+counted c = c .before .before .before .before .before
 
 abbrev made : tie.At-loop Inv-loop μ-loop → tie.After-age-limits Inv-loop μ-loop
 made c = c .before .before
@@ -72,7 +72,7 @@ numbered c = c .before .before .before .before
 
 -- the next block, in a turn that moves; the end of every turn
 abbrev moved : tie.After-is-stale Inv-loop μ-loop → tie.After-block-at2 Inv-loop μ-loop
-moved c = c .before .before .before .before
+moved c = c .before .before .before .before .before
 
 abbrev left : tie.After-is-stale Inv-loop μ-loop → tie.After-cell-number Inv-loop μ-loop
 left c = numbered (moved c .before .before)
@@ -170,6 +170,9 @@ room c = let s = start (head c) in (cell-room (chosen c), omega (arith, s .good 
 event-count-requires : tie.Need-event-count-requires Inv-loop μ-loop
 event-count-requires c κs = head-sound _ (shape-of _ (of-true (c .before .before .before .before .pre .0)))
 
+copied-requires : tie.Need-copied-requires Inv-loop μ-loop
+copied-requires c κs = ap length (entry c .pre .3) ∙ rowFrom-length _ 0 32
+
 deadlines-requires : tie.Need-deadlines-requires Inv-loop μ-loop
 deadlines-requires c κs = search needs
 
@@ -186,13 +189,14 @@ loop-holds c =
     let on = c .before in
     let count = counted on in
     let s = entry count in
-    let b = c .block-at in (
+    let b = c .block-at in
+    let copy = c .before .before .before .before .before .copied .ensures in (
       record {
         sound = of-true (s .pre .0);
         eventsAre = count .event-count .ensures;
         delaysAre = s .pre .2;
-        timersAre = s .pre .3;
-        sourcesAre = s .pre .4;
+        timersAre = copy ∙ s .pre .3;
+        sourcesAre = subst (λ (l : List ℕ). s .args .timed ≡ setOf 32 (λ m. not (eqb (getD l m 0) 0))) (sym copy) (s .pre .4);
       },
       start-block _ (of-true (s .pre .0)) (stateOf (s .args .start)) (s .pre .5)
           (b .ensures .0) (on .before .deadlines .ensures) (on .age-limits .ensures) (search needs) (omega (arith, b .ok, b .ensures .1 .1)) (s .pre .6),
@@ -279,7 +283,7 @@ block-at-requires-2 c κs = let cell = numbered (c .before) in (start (head cell
 
 started-requires : tie.Need-started-requires Inv-loop μ-loop
 started-requires c κs =
-    let v = head (numbered (c .before .before)) .loop .inv .0 in
+    let v = head (numbered (c .before .before .before)) .loop .inv .0 in
     from-word _ (v .sound) _ _ (v .timersAre) (v .sourcesAre)
 
 minus-requires : tie.Need-minus-requires Inv-loop μ-loop
@@ -394,28 +398,28 @@ loop-again c =
     ))
     (λ v.
     let exact =
-    ap₂ (λ (x : List ℕ) (y : ℕ). limitsBy x out′ y (l .i + 1)) (v .15) (v .17)
-    ∙ ap (λ (o : List ℕ). limitsBy (v .13 .last .0) o (v .13 .result) (l .i + 1)) out
-    ∙ v .13 .ensures .0 (l .out) (lastFour w place) refl (words-room cell) in
+    ap₂ (λ (x : List ℕ) (y : ℕ). limitsBy x out′ y (l .i + 1)) (v .16) (v .18)
+    ∙ ap (λ (o : List ℕ). limitsBy (v .14 .last .0) o (v .14 .result) (l .i + 1)) out
+    ∙ v .14 .ensures .0 (l .out) (lastFour w place) refl (words-room cell) in
     let r =
-    moves-on (chosen cell) (inv .0) (ap (λ (b : TableBlock). b .number) (v .16) ∙ v .1 .ensures .0)
+    moves-on (chosen cell) (inv .0) (ap (λ (b : TableBlock). b .number) (v .17) ∙ v .1 .ensures .0)
     refl (omega (arith, v .1 .ok))
-    (v .1 .ensures .1 .1 ∙ ap (λ (b : TableBlock). timersIn w (b .number)) (sym (v .16))) (ap (meet (v .1 .result .timers)) (v .2 .ensures))
-    (ap (λ (x : ℕ). not (eqb (minus x (minus (l .b .timers) (cell .before .due-by .result .set))) 0)) (sym (v .4 .ensures))
-    ∙ sym (v .5 .ensures) ∙ v .6 .left)
+    (v .1 .ensures .1 .1 ∙ ap (λ (b : TableBlock). timersIn w (b .number)) (sym (v .17))) (ap (meet (v .1 .result .timers)) (v .3 .ensures))
+    (ap (λ (x : ℕ). not (eqb (minus x (minus (l .b .timers) (cell .before .due-by .result .set))) 0)) (sym (v .5 .ensures))
+    ∙ sym (v .6 .ensures) ∙ v .7 .left)
     {out′ = out′} {ends′ = joined c .if2 .ends} {limits′ = limitsBy (joined c .if2 .limits) out′ (joined c .if2 .seen) (l .i + 1)} {soon = l .soon} {first = joined c .if2 .soon}
-    out (v .14 ∙ v .8 .ensures)
+    out (v .15 ∙ v .9 .ensures)
     (subst (Moved (l .i) (maskIn w (l .b .number)) (maskIn w (joined c .if2 .b .number)) entered (limitsBy (l .limits) (l .out) (l .seen) (l .i)))
     (sym (exact ∙ ap₂ (λ (was is : ℕ). enteredAt entered (l .i + 1) (enteredAt (minus is (union was entered)) (l .i) (limitsBy (l .limits) (l .out) (l .seen) (l .i))))
-    (v .10 .ensures) (v .11 .ensures ∙ ap (λ (b : TableBlock). maskIn w (b .number)) (sym (v .16)))))
+    (v .11 .ensures) (v .12 .ensures ∙ ap (λ (b : TableBlock). maskIn w (b .number)) (sym (v .17)))))
     (moved-by (l .i) (maskIn w (l .b .number)) (maskIn w (joined c .if2 .b .number)) entered (limitsBy (l .limits) (l .out) (l .seen) (l .i)) refl))
-    (inv .4) (subst (λ (n : ℕ). n ≤ l .soon) (sym (v .18)) (v .9 .ensures .0))
-    (λ u e. subst (λ (n : ℕ). n ≤ getD (joined c .if2 .ends) u 0) (sym (v .18 ∙ v .9 .ensures .1 u e)) (omega arith)) in (
+    (inv .4) (subst (λ (n : ℕ). n ≤ l .soon) (sym (v .19)) (v .10 .ensures .0))
+    (λ u e. subst (λ (n : ℕ). n ≤ getD (joined c .if2 .ends) u 0) (sym (v .19 ∙ v .10 .ensures .1 u e)) (omega arith)) in (
       inv .0,
       r .0,
-      subst (TableBlockOf w) (sym (v .16)) (v .1 .ensures .1),
-      ap length (v .15) ∙ v .13 .ensures .1,
-      λ t h. r .1 t (subst (λ (b : TableBlock). has (b .timers) t ≡ true) (v .16) h),
+      subst (TableBlockOf w) (sym (v .17)) (v .1 .ensures .1),
+      ap length (v .16) ∙ v .14 .ensures .1,
+      λ t h. r .1 t (subst (λ (b : TableBlock). has (b .timers) t ≡ true) (v .17) h),
     ))
     (joined c .if2 .came)
 
@@ -435,7 +439,7 @@ returns-3 c =
 pub ticks-with-spec : {M : Type 1} → statement M
 ticks-with-spec =
     tie.close
-    (tie.spec Inv-loop μ-loop event-count-requires deadlines-requires age-limits-requires block-at-requires loop-holds mul-input shared-slice-read-input shr-if1 ended-requires
+    (tie.spec Inv-loop μ-loop event-count-requires copied-requires deadlines-requires age-limits-requires block-at-requires loop-holds mul-input shared-slice-read-input shr-if1 ended-requires
     same-length returns add-now cast-due-by due-by-requires cell-number-requires mul-cell add-cell add-cell-2 mul-next
     shared-slice-read-next add-entered mul-entered shared-slice-read-entered stays-requires soon-after-requires
     block-at-requires-2 started-requires minus-requires is-stale-requires ended-requires-2 same-length-2 returns-2
