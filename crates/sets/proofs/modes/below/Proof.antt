@@ -4,17 +4,17 @@ use borrow.Author.Rules.{rules}
 use Rattle.sets.proofs.modes.below.Statement.{statement}
 use Rattle.sets.proofs.modes.below.Tie as tie
 
-sub-result : tie.Need-overflow-sub-result
+sub-result : tie.Need-overflow_sub-result
 sub-result c = search rules
 
-cast-result : tie.Need-overflow-cast-result
+cast-result : tie.Need-overflow_cast-result
 cast-result c = search rules
 
-shr-result : tie.Need-overflow-shr-result
+shr-result : tie.Need-overflow_shr-result
 shr-result c = search rules
 
 returns : tie.Need-returns
 returns c = ones_shr 32 c.args.n c.requires.1
 
-pub below-spec : {M : Type 1} → statement M
-below-spec = tie.close (tie.spec sub-result cast-result shr-result returns)
+pub below_spec : {M : Type 1} → statement M
+below_spec = tie.close (tie.spec sub-result cast-result shr-result returns)

@@ -5,14 +5,14 @@ use Rattle.sets.proofs.Highest.{leading_zeros_highest}
 use Rattle.sets.proofs.modes.highest.Statement.{statement}
 use Rattle.sets.proofs.modes.highest.Tie as tie
 
-sub-result : tie.Need-overflow-sub-result
+sub-result : tie.Need-overflow_sub-result
 sub-result c = omega (arith, leading_zeros_highest 32 c.args.set c.ranges.set.fits c.requires)
 
-cast-result : tie.Need-overflow-cast-result
+cast-result : tie.Need-overflow_cast-result
 cast-result c = search rules
 
 returns : tie.Need-returns
 returns c = omega (arith, leading_zeros_highest 32 c.args.set c.ranges.set.fits c.requires)
 
-pub highest-spec : {M : Type 1} → statement M
-highest-spec = tie.close (tie.spec sub-result cast-result returns)
+pub highest_spec : {M : Type 1} → statement M
+highest_spec = tie.close (tie.spec sub-result cast-result returns)

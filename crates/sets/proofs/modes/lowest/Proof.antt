@@ -5,11 +5,11 @@ use lib.Count.{trailing_le}
 use Rattle.sets.proofs.modes.lowest.Statement.{statement}
 use Rattle.sets.proofs.modes.lowest.Tie as tie
 
-cast-result : tie.Need-overflow-cast-result
+cast-result : tie.Need-overflow_cast-result
 cast-result c = omega (arith, trailing_le 32 c.args.set)
 
 returns : tie.Need-returns
 returns c = trailing_zeros_lowest 32 c.args.set c.ranges.set.fits
 
-pub lowest-spec : {M : Type 1} → statement M
-lowest-spec = tie.close (tie.spec cast-result returns)
+pub lowest_spec : {M : Type 1} → statement M
+lowest_spec = tie.close (tie.spec cast-result returns)

@@ -6,5 +6,5 @@ use Rattle.sets.proofs.modes.one_member.Tie as tie
 returns : tie.Need-returns
 returns c = rw (ones-size 32 c.args.set c.ranges.set.fits)
 
-pub one-member-spec : {M : Type 1} → statement M
-one-member-spec = tie.close (tie.spec returns)
+pub one_member_spec : {M : Type 1} → statement M
+one_member_spec = tie.close (tie.spec returns)

@@ -4,14 +4,14 @@ use borrow.Author.Rules.{rules}
 use Rattle.sets.proofs.modes.single.Statement.{statement}
 use Rattle.sets.proofs.modes.single.Tie as tie
 
-cast-result : tie.Need-overflow-cast-result
+cast-result : tie.Need-overflow_cast-result
 cast-result c = search rules
 
-shl-result : tie.Need-overflow-shl-result
+shl-result : tie.Need-overflow_shl-result
 shl-result c = search rules
 
 returns : tie.Need-returns
 returns c = one_shl 32 c.args.m c.requires
 
-pub single-spec : {M : Type 1} → statement M
-single-spec = tie.close (tie.spec cast-result shl-result returns)
+pub single_spec : {M : Type 1} → statement M
+single_spec = tie.close (tie.spec cast-result shl-result returns)

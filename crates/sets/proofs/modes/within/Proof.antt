@@ -7,5 +7,5 @@ use Rattle.sets.proofs.modes.within.Tie as tie
 returns : tie.Need-returns
 returns c = rw (and-not 32 c.ranges.a.fits c.ranges.b.fits) (minus_every 32 c.args.a c.args.b c.ranges.a.fits)
 
-pub within-spec : {M : Type 1} → statement M
-within-spec = tie.close (tie.spec returns)
+pub within_spec : {M : Type 1} → statement M
+within_spec = tie.close (tie.spec returns)

@@ -5,17 +5,17 @@ use Rattle.sets.proofs.Membership.{ones_shr}
 use Rattle.sets.proofs.transitions.below.Statement.{statement}
 use Rattle.sets.proofs.transitions.below.Tie as tie
 
-returns : tie.Need-returns
-returns c = rw c.if1.true
+returns : tie.Need-returns-then-n-eq0
+returns c = rw c.if-n-eq0.true
 
-sub-result : tie.Need-overflow-sub-result
+sub-result : tie.Need-overflow_sub-result
 sub-result c = search rules
 
-shr-result : tie.Need-overflow-shr-result
+shr-result : tie.Need-overflow_shr-result
 shr-result c = search rules
 
-returns-2 : tie.Need-returns-2
+returns-2 : tie.Need-returns
 returns-2 c = ones_shr 64 c.before.args.n (omega arith)
 
-pub below-spec : {M : Type 1} → statement M
-below-spec = tie.close (tie.spec returns sub-result shr-result returns-2)
+pub below_spec : {M : Type 1} → statement M
+below_spec = tie.close (tie.spec returns sub-result shr-result returns-2)

@@ -4,11 +4,11 @@ use borrow.Author.Rules.{rules}
 use Rattle.sets.proofs.transitions.has.Statement.{statement}
 use Rattle.sets.proofs.transitions.has.Tie as tie
 
-shr-result : tie.Need-overflow-shr-result
+shr-result : tie.Need-overflow_shr-result
 shr-result c = search rules
 
 returns : tie.Need-returns
 returns c = shift_test c.args.set c.args.t
 
-pub has-spec : {M : Type 1} → statement M
-has-spec = tie.close (tie.spec shr-result returns)
+pub has_spec : {M : Type 1} → statement M
+has_spec = tie.close (tie.spec shr-result returns)

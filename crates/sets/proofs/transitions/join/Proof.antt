@@ -8,5 +8,5 @@ use Rattle.sets.proofs.transitions.join.Tie as tie
 returns : tie.Need-returns
 returns c = rw (shl_exact {a = c.args.high} 32 32 64 c.ranges.high.fits (lit≤ tt)) (or_shifted c.args.high 32 c.args.low c.ranges.low.fits)
 
-pub join-spec : {M : Type 1} → statement M
-join-spec = tie.close (tie.spec returns)
+pub join_spec : {M : Type 1} → statement M
+join_spec = tie.close (tie.spec returns)

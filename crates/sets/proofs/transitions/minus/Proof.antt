@@ -6,5 +6,5 @@ use Rattle.sets.proofs.transitions.minus.Tie as tie
 returns : tie.Need-returns
 returns c = and-not 64 c.ranges.a.fits c.ranges.b.fits
 
-pub minus-spec : {M : Type 1} → statement M
-minus-spec = tie.close (tie.spec returns)
+pub minus_spec : {M : Type 1} → statement M
+minus_spec = tie.close (tie.spec returns)

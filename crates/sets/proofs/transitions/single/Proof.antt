@@ -4,11 +4,11 @@ use borrow.Author.Rules.{rules}
 use Rattle.sets.proofs.transitions.single.Statement.{statement}
 use Rattle.sets.proofs.transitions.single.Tie as tie
 
-shl-result : tie.Need-overflow-shl-result
+shl-result : tie.Need-overflow_shl-result
 shl-result c = search rules
 
 returns : tie.Need-returns
 returns c = one_shl 64 c.args.t c.requires
 
-pub single-spec : {M : Type 1} → statement M
-single-spec = tie.close (tie.spec shl-result returns)
+pub single_spec : {M : Type 1} → statement M
+single_spec = tie.close (tie.spec shl-result returns)

@@ -10,10 +10,10 @@ use Rattle.sets.proofs.Membership.{one_shl}
 use Rattle.sets.proofs.transitions.single_if.Statement.{statement}
 use Rattle.sets.proofs.transitions.single_if.Tie as tie
 
-cast-result : tie.Need-overflow-cast-result
+cast-result : tie.Need-overflow_cast-result
 cast-result c = search rules
 
-shl-result : tie.Need-overflow-shl-result
+shl-result : tie.Need-overflow_shl-result
 shl-result c = search rules
 
 placed : (b : Bool) (t : ℕ) → t < 64 → bool_byte b * 2 ^ t % 2 ^ 64 ≡ digit b * 2 ^ t
@@ -24,5 +24,5 @@ placed false t h = simp zero-mul
 returns : tie.Need-returns
 returns c = placed c.args.test c.args.t c.requires
 
-pub single-if-spec : {M : Type 1} → statement M
-single-if-spec = tie.close (tie.spec cast-result shl-result returns)
+pub single_if_spec : {M : Type 1} → statement M
+single_if_spec = tie.close (tie.spec cast-result shl-result returns)

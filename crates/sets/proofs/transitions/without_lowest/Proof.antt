@@ -4,11 +4,11 @@ use borrow.Author.Rules.{rules}
 use Rattle.sets.proofs.transitions.without_lowest.Statement.{statement}
 use Rattle.sets.proofs.transitions.without_lowest.Tie as tie
 
-sub-result : tie.Need-overflow-sub-result
+sub-result : tie.Need-overflow_sub-result
 sub-result c = search rules
 
 returns : tie.Need-returns
 returns c = without_lowest_lem 64 c.args.set c.ranges.set.fits c.requires
 
-pub without-lowest-spec : {M : Type 1} → statement M
-without-lowest-spec = tie.close (tie.spec sub-result returns)
+pub without_lowest_spec : {M : Type 1} → statement M
+without_lowest_spec = tie.close (tie.spec sub-result returns)
