@@ -1,4 +1,6 @@
 // The cases of the conformance program: what each reads after its number, the call that it makes and the line that it writes.
+#![tactic(auto)]
+
 pub mod acceptance_case;
 pub mod alternatives_case;
 pub mod compile_case;

@@ -1,4 +1,6 @@
 // The conformance program: cases on standard input, an answer for each on standard output.
+#![tactic(auto)]
+
 ghost use Rattle.std.specs.Prelude.{◌≤◌, length};
 ghost use Rattle.conform.specs.Steps.{Within};
 

@@ -69,5 +69,5 @@ module _ (s inputs : List ℕ) (m : ℕ) (small : m < 32) where
         omega (arith, old, new, ap (λ (i : ℕ). age (before i).ages m) n)
 
 pub age_since_lem : AgeSince
-unfolding AgeSince
+unfolding AgeSince entered_in Rattle.meaning.specs.ModeAges.entered_in Rattle.meaning.specs.Run.ticks Rattle.meaning.specs.ModeAges.state_by
 age_since_lem s inputs m j k small l entry none on = since s inputs m small j entry k l none on

@@ -80,6 +80,8 @@ module _ (k : ℕ) (step : State → ℕ → Step) (alike : (q p : State) (i : �
   run_apart : (refusal : ℕ) (a b short : Bool) (q p : State) → ButAges q p → T a → T b → (inputs out : List ℕ)
       → RunsButAges (run k step refusal a short q inputs out) (run k step refusal b short p inputs out)
   unfolding run ran
+  run_apart refusal false b short q p h x3 _ inputs out = elim x3 [ ]
+  run_apart refusal true false short q p h _ x8 inputs out = elim x8 [ ]
   run_apart refusal true true short q p h _ _ inputs out =
       let e = refused_first k step refusal true short q inputs out in
       ran_apart _ _ (either e (eqb e 0))

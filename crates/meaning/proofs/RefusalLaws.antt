@@ -58,6 +58,7 @@ test_passed_e false e n h = absurd (n h)
 
 pub test_passed_i : (b : Bool) (e : ℕ) → T b → refused_if (not b) e ≡ 0
 unfolding refused_if
+test_passed_i false e h = elim h [ ]
 test_passed_i true e h = refl
 
 -- where it fails the refusal is given

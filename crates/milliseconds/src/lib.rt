@@ -1,4 +1,6 @@
 // Delays in milliseconds, as ticks and the milliseconds left over.
+#![tactic(auto)]
+
 ghost use Rattle.std.specs.Prelude.{◌≡◌, ℕ, ◌*◌, ◌≤◌, ◌<◌, ltb, length, get_or};
 ghost use Rattle.sets.specs.Sets.{some};
 ghost use Rattle.rows.specs.Over.{over};

@@ -1,6 +1,8 @@
 // The operations under C names, for a program in another language. A slice passes as a pointer and a length. Each answers the
 // refusal's number, 0 for none, and puts its counts into `info`; a state is 97 lent words: the mode set or block, readings, ages.
 // With fewer words in `info` or in the state than asked for, a call does nothing and answers 4294967295.
+#![tactic(auto)]
+
 ghost use Rattle.std.specs.Prelude.{◌≡◌, cond, [], ◌∷◌, ◌≤◌, length};
 ghost use Rattle.meaning.specs.Lists.{overwritten};
 ghost use Rattle.meaning.specs.Check.{sheet_refusal};

@@ -1,4 +1,6 @@
 // The plan of a sheet, worked out once per call: each part is laid in place.
+#![tactic(auto)]
+
 ghost use Rattle.std.specs.Prelude.{◌≡◌, replicate};
 ghost use Rattle.meaning.specs.Check.{sheet_refusal};
 ghost use Rattle.reaction.specs.Plan.{plan_size, Planned};

@@ -1,4 +1,6 @@
 // The bench program's answers to many texts on standard input, with a semicolon between them.
+#![tactic(auto)]
+
 use printout::texts::{TextEnd, answer_texts};
 
 fn main() {

@@ -1,4 +1,6 @@
 // Words stored in a row, at a place of a lent slice.
+#![tactic(auto)]
+
 ghost use Rattle.std.specs.Prelude.{◌≡◌, [], ◌∷◌, ◌+◌, ◌≤◌, length};
 ghost use Rattle.rows.specs.Over.{over, zeros, three_of, five_of, six_of};
 

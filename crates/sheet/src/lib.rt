@@ -1,4 +1,6 @@
 // A sheet: its words read, containment and meeting mode, refusals 1 to 6.
+#![tactic(auto)]
+
 ghost use Rattle.std.specs.Prelude.{◌≡◌};
 ghost use Rattle.meaning.specs.Check.{head_ok, sheet_refusal};
 ghost use Rattle.meaning.specs.Refusal.{number_of};

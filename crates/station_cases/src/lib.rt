@@ -1,4 +1,6 @@
 // The case of stations: what it reads after its number, the call that it makes and the line that it writes.
+#![tactic(auto)]
+
 ghost use Rattle.std.specs.Prelude.{◌≡◌, ◌+◌, ◌*◌, ◌≤◌, length, get_or, take};
 ghost use Rattle.meaning.specs.Refusal.{number_of};
 ghost use Rattle.meaning.specs.Stations.{serve_stations};

@@ -1,4 +1,6 @@
 // The table's layout: its words read, and refusal 15 before a run.
+#![tactic(auto)]
+
 ghost use Rattle.std.specs.Prelude.{◌≡◌, ◌&&◌, ◌||◌, T, eqb, ltb, ◌/◌, ◌%◌};
 ghost use Rattle.sets.specs.Sets.{every};
 ghost use Rattle.meaning.specs.Table.{t_in, timer_ok, table_ok};
