@@ -7,21 +7,21 @@ use super::text::Input;
 use run::state::{STATE_WORDS, State, from_words};
 
 // The text that is left after a sheet or a table, and how many words it has.
-#[derive(Drop)]
+#[derive(Clone, Copy)]
 pub struct Read {
     pub input: Input,
     pub words: usize,
 }
 
 // A state, and what is left after it.
-#[derive(Drop)]
+#[derive(Clone, Copy)]
 pub struct StateRead {
     pub state: State,
     pub input: Input,
 }
 
 // A run asked for: the state, how many input sets, how many output words; and what is left after it.
-#[derive(Drop)]
+#[derive(Clone, Copy)]
 pub struct Asked {
     pub state: State,
     pub inputs: usize,

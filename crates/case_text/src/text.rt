@@ -5,21 +5,21 @@
 ghost use Rattle.std.specs.Prelude.{◌+◌, ◌≤◌, ◌<◌, length};
 
 // The bytes of the buffer from at to end are still to be read.
-#[derive(Drop)]
+#[derive(Clone, Copy)]
 pub struct Input {
     pub at: usize,
     pub end: usize,
 }
 
 // The next byte, and what is left after it.
-#[derive(Drop)]
+#[derive(Clone, Copy)]
 enum Next {
     Is(u8, Input),
     End,
 }
 
 // A number that was read, and what is left after it.
-#[derive(Drop)]
+#[derive(Clone, Copy)]
 pub struct Parsed {
     pub value: u32,
     pub input: Input,

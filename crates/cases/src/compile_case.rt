@@ -7,7 +7,7 @@ use compiler::Compiled;
 use meaning::refusal::number;
 
 // The text that is left after the case, how many table words were lent, and how many the table has: 0 where the sheet was refused.
-#[derive(Drop)]
+#[derive(Clone, Copy)]
 pub struct Built {
     pub input: Input,
     pub lent: usize,

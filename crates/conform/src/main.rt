@@ -13,7 +13,7 @@ use cases::{
 
 // The text that is left, how many words the current sheet has, how many table words are lent, and how many of them the current
 // table has.
-#[derive(Drop)]
+#[derive(Clone, Copy)]
 struct Left {
     input: Input,
     words: usize,
@@ -22,7 +22,7 @@ struct Left {
 }
 
 // What a case leaves, or that there are no more.
-#[derive(Drop)]
+#[derive(Clone, Copy)]
 enum Step {
     Next(Left),
     Done,

@@ -7,7 +7,7 @@ ghost use Rattle.decimals.specs.Reading.{refused as refusedReading};
 
 // How far a text is read: whether it is one of decimals so far, whether digits are pending, the number that they make, and how many
 // numbers stand in the lent words.
-#[derive(Drop)]
+#[derive(Clone, Copy)]
 pub struct Reader {
     pub good: bool,
     pub pending: bool,

@@ -10,7 +10,7 @@ pub const MOST_TICKS: u32 = 1024;
 pub const MOST_NUMBERS: usize = 2 + MOST_WORDS as usize + MOST_TICKS as usize;
 
 // Whether they are such a list, and how many sheet words and ticks they ask for: none where they are not.
-#[derive(Drop)]
+#[derive(Clone, Copy)]
 pub struct Request {
     pub ok: bool,
     pub words: usize,

@@ -24,7 +24,7 @@ fn is_sure(sheet: &[u32], t: usize) -> bool
 }
 
 // The timers, and the transitions that an input set can trigger by itself.
-#[derive(Drop)]
+#[derive(Clone, Copy)]
 pub struct Classed {
     pub timing: u64,
     pub certain: u64,

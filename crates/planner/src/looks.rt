@@ -56,7 +56,7 @@ fn taken_by(kind: u32, v: u32) -> u64
 }
 
 // What the terms of a transition are about.
-#[derive(Drop)]
+#[derive(Clone, Copy)]
 pub struct Looks {
     pub events: u64,
     pub entry: u32,

@@ -15,7 +15,7 @@ const WORK_ROOM: usize = 1024;
 
 // Whether there is a header with the lines of the ticks done; how many these are; the refusal's number: with a header 0 is none,
 // without one it is the whole answer.
-#[derive(Drop)]
+#[derive(Clone, Copy)]
 pub struct Answer {
     pub header: bool,
     pub done: usize,

@@ -13,7 +13,7 @@ use decimals::request::{MOST_NUMBERS, MOST_TICKS};
 const OUTPUT_ROOM: usize = 5 * MOST_TICKS as usize;
 
 // A text ends where the input ends; or at a byte, too.
-#[derive(Drop)]
+#[derive(Clone, Copy)]
 pub enum TextEnd {
     Input,
     Byte(u8),

@@ -19,7 +19,7 @@ use sets::{modes, transitions};
 use sheet::words::{transition_count, wide};
 
 // What is carried from round to round: the current modes, those entered and exited in the tick, the transitions taken.
-#[derive(Drop)]
+#[derive(Clone, Copy)]
 pub struct Sets {
     pub modes: u32,
     pub entered: u32,
@@ -29,7 +29,7 @@ pub struct Sets {
 
 // What a tick gives: the modes after it (as a refused round began), those entered and, from bit 32 on, those exited, the transitions
 // taken, and its rounds.
-#[derive(Drop)]
+#[derive(Clone, Copy)]
 pub struct Ticked {
     pub refusal: Refusal,
     pub rounds: u32,
@@ -40,7 +40,7 @@ pub struct Ticked {
 
 // What transitions do if they are taken together: the modes exited if active and, from bit 32 on, entered; the transitions in
 // conflict with one of them; those that can be triggered next.
-#[derive(Drop)]
+#[derive(Clone, Copy)]
 pub struct Moves {
     pub ends: u64,
     pub clashes: u64,
@@ -48,7 +48,7 @@ pub struct Moves {
 }
 
 // The transitions that a round takes, and what they do.
-#[derive(Drop)]
+#[derive(Clone, Copy)]
 pub struct Round {
     pub chosen: u64,
     pub moves: Moves,
@@ -56,7 +56,7 @@ pub struct Round {
 
 // What a tick begins with: the modes (at power-on the root, completed) and those of them entered; the transitions whose source is
 // one of them; those of these whose terms are to be judged.
-#[derive(Drop)]
+#[derive(Clone, Copy)]
 pub struct Start {
     pub begun: u32,
     pub entered: u32,

@@ -17,7 +17,7 @@ use sheet::words::source;
 
 // What is reported of a transition: a refusal; its source was never active; it was never triggered; it gave way to a transition; it was
 // taken in a round, counted from 1, by an alternative.
-#[derive(Drop)]
+#[derive(Clone, Copy)]
 pub enum Why {
     Refused(Refusal),
     NeverActive,

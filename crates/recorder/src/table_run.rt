@@ -26,7 +26,7 @@ use table::table_ok;
 use table::words::{block_count, event_count, offset};
 
 // What a table run returns: ticks done, the state after them, the refusal.
-#[derive(Drop)]
+#[derive(Clone, Copy)]
 pub struct Ran {
     pub done: Ticks,
     pub state: State,
@@ -34,7 +34,7 @@ pub struct Ran {
 }
 
 // A block: its number, where its words begin, its running timers.
-#[derive(Drop)]
+#[derive(Clone, Copy)]
 struct TableBlock {
     number: u32,
     at: usize,

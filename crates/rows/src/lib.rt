@@ -5,7 +5,7 @@ ghost use Rattle.std.specs.Prelude.{◌≡◌, [], ◌∷◌, ◌+◌, ◌≤◌
 ghost use Rattle.rows.specs.Over.{over, zeros, three_of, five_of, six_of};
 
 // A mode mask and a set of transitions, low and high: a block's header with its running timers, or the last words of a tick.
-#[derive(Drop)]
+#[derive(Clone, Copy)]
 pub struct Three {
     pub mask: u32,
     pub low: u32,
@@ -13,7 +13,7 @@ pub struct Three {
 }
 
 // The words of a tick, in a cell's order from entered on.
-#[derive(Drop)]
+#[derive(Clone, Copy)]
 pub struct Five {
     pub entered: u32,
     pub exited: u32,
@@ -23,7 +23,7 @@ pub struct Five {
 }
 
 // A cell: the next block, and the words of its tick.
-#[derive(Drop)]
+#[derive(Clone, Copy)]
 pub struct Six {
     pub next: u32,
     pub five: Five,

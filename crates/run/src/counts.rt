@@ -2,11 +2,11 @@
 ghost use Rattle.std.specs.Prelude.{◌≡◌, ◌+◌, ◌<◌};
 ghost use Rattle.run.specs.Counts.{total_of};
 
-#[derive(Drop)]
+#[derive(Clone, Copy)]
 pub struct Ticks(pub usize);
 
 // Whole times 2^32, and the rest: a total of rounds can pass 2^64 on paper.
-#[derive(Drop)]
+#[derive(Clone, Copy)]
 pub struct Rounds(pub u64, pub u64);
 
 // The total with the rounds of one more tick.

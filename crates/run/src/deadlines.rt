@@ -35,7 +35,7 @@ pub fn readings_at(ends: &[u64; 64], timers: u64, tick: u64) -> [u32; 64]
 }
 
 // The timers of a set that are due in a tick: as a set, and as the number that they make, the lowest timer in bit `low`.
-#[derive(Drop)]
+#[derive(Clone, Copy)]
 pub struct DueTimers {
     pub set: u64,
     pub number: u64,

@@ -13,7 +13,7 @@ use sets::transitions;
 
 // A mode set (0: fresh), or in a table run a block number, one reading per transition, and one age per mode.
 #[repr(C)]
-#[derive(Drop)]
+#[derive(Clone, Copy)]
 pub struct State {
     pub at: u32,
     pub readings: [u32; 64],

@@ -25,7 +25,7 @@ pub fn within_each(sheet: &[u32]) -> [u32; 32]
 }
 
 // A sheet's refusal and its masks, 0 for a number that is no mode; all 0 where the sheet is refused.
-#[derive(Drop)]
+#[derive(Clone, Copy)]
 pub struct Masks {
     pub refusal: Refusal,
     pub masks: [u32; 32],

@@ -33,7 +33,7 @@ use sets::{modes, transitions};
 use sheet::words::event_count;
 
 // What a sheet run returns: ticks done, their total of rounds, the state after them, the refusal.
-#[derive(Drop)]
+#[derive(Clone, Copy)]
 pub struct Ran {
     pub done: Ticks,
     pub rounds: Rounds,
@@ -142,7 +142,7 @@ fn put_tick(
 }
 
 // What a tick leaves: the transitions whose source is active, and the timers among them that start, whose source was entered.
-#[derive(Drop)]
+#[derive(Clone, Copy)]
 pub struct Left {
     pub live: u64,
     pub starts: u64,

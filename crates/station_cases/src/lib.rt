@@ -13,14 +13,14 @@ use run::state::{STATE_WORDS, State};
 use stations::{Served, Station, serve};
 
 // A station, and what is left after it.
-#[derive(Drop)]
+#[derive(Clone, Copy)]
 struct StationRead {
     station: Station,
     input: Input,
 }
 
 // The stations of a case, of which as many count as were asked for, and what is left after them.
-#[derive(Drop)]
+#[derive(Clone, Copy)]
 struct StationsRead {
     list: [Station; 65],
     input: Input,

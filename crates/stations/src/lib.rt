@@ -21,7 +21,7 @@ use turn::take_turn;
 // A state, the position in its part of the input list, the stopped mark, and where its parts of the input list and of the output list
 // start and how many words they have.
 #[repr(C)]
-#[derive(Drop)]
+#[derive(Clone, Copy)]
 pub struct Station {
     pub state: State,
     pub position: u32,
@@ -34,7 +34,7 @@ pub struct Station {
 
 // Whose turn it is, of how many stations; the ticks left; how many turns a station gets at once; how many of the stations before this
 // one have work. Before the first turn is served (`serving`), every station's parts are looked at.
-#[derive(Drop)]
+#[derive(Clone, Copy)]
 pub struct Schedule {
     pub going: bool,
     pub serving: bool,
@@ -52,7 +52,7 @@ pub const PART_WORDS: usize = 256;
 pub const WORK_WORDS: usize = 4449;
 
 // What a call returns: the ticks served, and the refusal.
-#[derive(Drop)]
+#[derive(Clone, Copy)]
 pub struct Served {
     pub spent: u64,
     pub refusal: Refusal,

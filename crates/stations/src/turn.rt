@@ -16,7 +16,7 @@ use recorder::notes::{put_notes, run_noted};
 use recorder::table_run::Ran;
 
 // The station and the schedule after its turn.
-#[derive(Drop)]
+#[derive(Clone, Copy)]
 pub struct Turn {
     pub station: Station,
     pub schedule: Schedule,
