@@ -33,8 +33,8 @@ loop-less c = search rules
 
 loop-again : tie.Need-loop-t-preserved invariant_loop decreases_loop
 loop-again c =
-    let l = c.before.loop-t in
-    let a = c.before.before.args in (
+    let l = c.loop-t in
+    let a = c.args in (
       omega arith,
       length-set l.out (a.at + l.t) 0 ∙ l.invariant.1,
       ap (λ (v : List ℕ). set v (a.at + l.t) 0) l.invariant.2 ∙ over_zero a.out.now a.at l.t (omega arith),
@@ -45,8 +45,8 @@ same_length c = search rules
 
 returns : tie.Need-returns invariant_loop decreases_loop
 returns c =
-    let l = c.before.loop-t in
-    let a = c.before.before.args in
+    let l = c.loop-t in
+    let a = c.args in
     let e : l.t ≡ 64 = omega arith in
     l.invariant.2 ∙ ap (λ (n : ℕ). over a.out.now a.at (zeros n)) e
 

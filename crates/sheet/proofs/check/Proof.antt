@@ -11,74 +11,74 @@ use Rattle.sheet.proofs.check.Tie as tie
 
 -- ---- the tests that have passed where the next one is made
 
-past_head : (c : tie.Else1) → head_ok c.before.before.before.args.sheet.now ≡ true
-past_head c = passed c.before.head_ok.ensures c.if1.false
+past_head : (c : tie.Else-not-head_ok) → head_ok c.args.sheet.now ≡ true
+past_head c = passed c.head_ok.ensures c.if-not-head_ok.false-raw
 
-past-modes : (c : tie.Else2) → let s = c.before.before.before.before.before.args.sheet.now in (head_ok s ≡ true) × (modes_ok s ≡ true)
-past-modes c = (past_head c.before.before, passed c.before.modes-ok.ensures c.if2.false)
+past-modes : (c : tie.Else-not-modes_ok) → let s = c.args.sheet.now in (head_ok s ≡ true) × (modes_ok s ≡ true)
+past-modes c = (past_head c.before.before, passed c.modes_ok.ensures c.if-not-modes_ok.false-raw)
 
-past_pairs : (c : tie.Else3) → let s = c.before.before.before.before.before.before.before.args.sheet.now in (head_ok s ≡ true) × (modes_ok s ≡ true) × (pairs_ok s ≡ true)
-past_pairs c = let q = past-modes c.before.before in (q.0, q.1, passed c.before.pairs-ok.ensures c.if3.false)
+past_pairs : (c : tie.Else-not-pairs_ok) → let s = c.args.sheet.now in (head_ok s ≡ true) × (modes_ok s ≡ true) × (pairs_ok s ≡ true)
+past_pairs c = let q = past-modes c.before.before in (q.0, q.1, passed c.pairs_ok.ensures c.if-not-pairs_ok.false-raw)
 
-past-ends : (c : tie.Else4) → let s = c.before.before.before.before.before.before.before.before.before.args.sheet.now in (head_ok s ≡ true) × (modes_ok s ≡ true) × (pairs_ok s ≡ true) × (ends_ok s ≡ true)
-past-ends c = let q = past_pairs c.before.before in (q.0, q.1, q.2, passed c.before.ends-ok.ensures c.if4.false)
+past-ends : (c : tie.Else-not-ends_ok) → let s = c.args.sheet.now in (head_ok s ≡ true) × (modes_ok s ≡ true) × (pairs_ok s ≡ true) × (ends_ok s ≡ true)
+past-ends c = let q = past_pairs c.before.before in (q.0, q.1, q.2, passed c.ends_ok.ensures c.if-not-ends_ok.false-raw)
 
-past-terms : (c : tie.Else5) → let s = c.before.before.before.before.before.before.before.before.before.before.before.args.sheet.now in (head_ok s ≡ true) × (modes_ok s ≡ true) × (pairs_ok s ≡ true) × (ends_ok s ≡ true) × (terms_ok s ≡ true)
-past-terms c = let q = past-ends c.before.before in (q.0, q.1, q.2, q.3, passed c.before.terms-ok.ensures c.if5.false)
+past-terms : (c : tie.Else-not-terms_ok) → let s = c.args.sheet.now in (head_ok s ≡ true) × (modes_ok s ≡ true) × (pairs_ok s ≡ true) × (ends_ok s ≡ true) × (terms_ok s ≡ true)
+past-terms c = let q = past-ends c.before.before in (q.0, q.1, q.2, q.3, passed c.terms_ok.ensures c.if-not-terms_ok.false-raw)
 
-past-distinct : (c : tie.Else6) → let s = c.before.before.before.before.before.before.before.before.before.before.before.before.before.args.sheet.now in (head_ok s ≡ true) × (modes_ok s ≡ true) × (pairs_ok s ≡ true) × (ends_ok s ≡ true) × (terms_ok s ≡ true) × (distinct_ok s ≡ true)
-past-distinct c = let q = past-terms c.before.before in (q.0, q.1, q.2, q.3, q.4, passed c.before.distinct-ok.ensures c.if6.false)
+past-distinct : (c : tie.Else-not-distinct_ok) → let s = c.args.sheet.now in (head_ok s ≡ true) × (modes_ok s ≡ true) × (pairs_ok s ≡ true) × (ends_ok s ≡ true) × (terms_ok s ≡ true) × (distinct_ok s ≡ true)
+past-distinct c = let q = past-terms c.before.before in (q.0, q.1, q.2, q.3, q.4, passed c.distinct_ok.ensures c.if-not-distinct_ok.false-raw)
 
 -- ---- the places
 
-head-ok-requires : tie.Need-head-ok-requires
+head-ok-requires : tie.Need-head_ok-requires
 head-ok-requires c κs = search rules
 
-returns : tie.Need-returns
+returns : tie.Need-returns-then-not-head_ok
 unfolding sheet_refusal first_of
-returns c = rw (failed c.before.head_ok.ensures c.if1.true)
+returns c = rw (failed c.head_ok.ensures c.if-not-head_ok.true-raw)
 
-modes-ok-requires : tie.Need-modes-ok-requires
+modes-ok-requires : tie.Need-modes_ok-requires
 modes-ok-requires c κs = of_true (past_head c)
 
-returns-2 : tie.Need-returns-2
+returns-2 : tie.Need-returns-then-not-modes_ok
 unfolding sheet_refusal first_of
-returns-2 c = rw (past_head c.before.before, failed c.before.modes-ok.ensures c.if2.true)
+returns-2 c = rw (past_head c.before.before, failed c.modes_ok.ensures c.if-not-modes_ok.true-raw)
 
-pairs-ok-requires : tie.Need-pairs-ok-requires
+pairs-ok-requires : tie.Need-pairs_ok-requires
 pairs-ok-requires c κs = of_true (past-modes c).0
 
-returns-3 : tie.Need-returns-3
+returns-3 : tie.Need-returns-then-not-pairs_ok
 unfolding sheet_refusal first_of
-returns-3 c = let q = past-modes c.before.before in rw (q.0, q.1, failed c.before.pairs-ok.ensures c.if3.true)
+returns-3 c = let q = past-modes c.before.before in rw (q.0, q.1, failed c.pairs_ok.ensures c.if-not-pairs_ok.true-raw)
 
-ends-ok-requires : tie.Need-ends-ok-requires
+ends-ok-requires : tie.Need-ends_ok-requires
 ends-ok-requires c κs = let q = past_pairs c in (record { head = of_true q.0; modes = of_true q.1 }, of_true q.2)
 
-returns-4 : tie.Need-returns-4
+returns-4 : tie.Need-returns-then-not-ends_ok
 unfolding sheet_refusal first_of
-returns-4 c = let q = past_pairs c.before.before in rw (q.0, q.1, q.2, failed c.before.ends-ok.ensures c.if4.true)
+returns-4 c = let q = past_pairs c.before.before in rw (q.0, q.1, q.2, failed c.ends_ok.ensures c.if-not-ends_ok.true-raw)
 
-terms-ok-requires : tie.Need-terms-ok-requires
+terms-ok-requires : tie.Need-terms_ok-requires
 terms-ok-requires c κs = let q = past-ends c in (of_true q.0, of_true q.2)
 
-returns-5 : tie.Need-returns-5
+returns-5 : tie.Need-returns-then-not-terms_ok
 unfolding sheet_refusal first_of
-returns-5 c = let q = past-ends c.before.before in rw (q.0, q.1, q.2, q.3, failed c.before.terms-ok.ensures c.if5.true)
+returns-5 c = let q = past-ends c.before.before in rw (q.0, q.1, q.2, q.3, failed c.terms_ok.ensures c.if-not-terms_ok.true-raw)
 
-distinct-ok-requires : tie.Need-distinct-ok-requires
+distinct-ok-requires : tie.Need-distinct_ok-requires
 distinct-ok-requires c κs = let q = past-terms c in (of_true q.0, of_true q.2, of_true q.3)
 
-returns-6 : tie.Need-returns-6
+returns-6 : tie.Need-returns-then-not-distinct_ok
 unfolding sheet_refusal first_of
-returns-6 c = let q = past-terms c.before.before in rw (q.0, q.1, q.2, q.3, q.4, failed c.before.distinct-ok.ensures c.if6.true)
+returns-6 c = let q = past-terms c.before.before in rw (q.0, q.1, q.2, q.3, q.4, failed c.distinct_ok.ensures c.if-not-distinct_ok.true-raw)
 
-returns-7 : tie.Need-returns-7
+returns-7 : tie.Need-returns
 unfolding sheet_refusal first_of
 returns-7 c = let q = past-distinct c in rw (q.0, q.1, q.2, q.3, q.4, q.5)
 
-pub check-spec : {M : Type 1} → statement M
-check-spec =
+pub check_spec : {M : Type 1} → statement M
+check_spec =
     tie.close
     (tie.spec head-ok-requires returns modes-ok-requires returns-2 pairs-ok-requires returns-3 ends-ok-requires
     returns-4 terms-ok-requires returns-5 distinct-ok-requires returns-6 returns-7)

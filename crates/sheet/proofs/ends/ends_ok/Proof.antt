@@ -10,43 +10,43 @@ use Rattle.sets.proofs.Loops.{every_start, every_next, every_fails, every_done, 
 use Rattle.sheet.proofs.ends.ends_ok.Statement.{statement}
 use Rattle.sheet.proofs.ends.ends_ok.Tie as tie
 
-abbrev invariant_loop : tie.invariant-loop
+abbrev invariant_loop : tie.invariant-loop-t
 invariant_loop sheet count containers t₀ t = (t ≤ count) × (every t (end_ok sheet) ≡ true)
 
-abbrev decreases_loop : tie.decreases-loop
+abbrev decreases_loop : tie.decreases-loop-t
 decreases_loop sheet count containers t₀ t = count - t
 
-transition-count-requires : tie.Need-transition-count-requires invariant_loop decreases_loop
+transition-count-requires : tie.Need-transition_count-count-requires invariant_loop decreases_loop
 transition-count-requires c κs = search rules
 
-containers-requires : tie.Need-containers-requires invariant_loop decreases_loop
+containers-requires : tie.Need-containers-containers-requires invariant_loop decreases_loop
 containers-requires c κs = search rules
 
-loop-holds : tie.Need-loop-init invariant_loop decreases_loop
+loop-holds : tie.Need-loop-t-init invariant_loop decreases_loop
 loop-holds c = (zero-le, every_start _)
 
-end-ok-requires : tie.Need-end-ok-requires invariant_loop decreases_loop
+end-ok-requires : tie.Need-end_ok-requires invariant_loop decreases_loop
 end-ok-requires c κs = search rules
 
-returns : tie.Need-returns invariant_loop decreases_loop
+returns : tie.Need-returns-then-not-end_ok invariant_loop decreases_loop
 unfolding ends_ok
-returns c = sym (every_fails _ _ _ (search rules) (failed c.before.end-ok.ensures c.if1.true))
+returns c = sym (every_fails _ _ _ (search rules) (failed c.end_ok.ensures c.if-not-end_ok.true-raw))
 
-add-t : tie.Need-overflow-add-t invariant_loop decreases_loop
+add-t : tie.Need-overflow_add-t invariant_loop decreases_loop
 add-t c = search rules
 
-loop-less : tie.Need-loop-smaller invariant_loop decreases_loop
+loop-less : tie.Need-loop-t-smaller invariant_loop decreases_loop
 loop-less c = search rules
 
-loop-again : tie.Need-loop-preserved invariant_loop decreases_loop
-loop-again c = (search rules, every_next _ _ c.before.before.before.before.loop.invariant.1 (passed c.before.end-ok.ensures c.if1.false))
+loop-again : tie.Need-loop-t-preserved invariant_loop decreases_loop
+loop-again c = (search rules, every_next _ _ c.loop-t.invariant.1 (passed c.end_ok.ensures c.if-not-end_ok.false-raw))
 
-returns-2 : tie.Need-returns-2 invariant_loop decreases_loop
+returns-2 : tie.Need-returns invariant_loop decreases_loop
 unfolding ends_ok
-returns-2 c = sym (every_done _ _ _ (search rules) (search rules) c.before.loop.invariant.1)
+returns-2 c = sym (every_done _ _ _ (search rules) (search rules) c.loop-t.invariant.1)
 
-pub ends-ok-spec : {M : Type 1} → statement M
-ends-ok-spec =
+pub ends_ok_spec : {M : Type 1} → statement M
+ends_ok_spec =
     tie.close
     (tie.spec invariant_loop decreases_loop transition-count-requires containers-requires loop-holds end-ok-requires returns add-t loop-less loop-again
     returns-2)

@@ -9,5 +9,5 @@ kind-requires c κs = search rules
 returns : tie.Need-returns
 returns c = rw c.kind.ensures
 
-pub is-serial-spec : {M : Type 1} → statement M
-is-serial-spec = tie.close (tie.spec kind-requires returns)
+pub is_serial_spec : {M : Type 1} → statement M
+is_serial_spec = tie.close (tie.spec kind-requires returns)

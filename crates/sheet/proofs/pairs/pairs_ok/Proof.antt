@@ -11,48 +11,48 @@ use Rattle.sets.proofs.Loops.{every_start, every_next, every_fails, every_done, 
 use Rattle.sheet.proofs.pairs.pairs_ok.Statement.{statement}
 use Rattle.sheet.proofs.pairs.pairs_ok.Tie as tie
 
-abbrev invariant_loop : tie.invariant-loop
+abbrev invariant_loop : tie.invariant-loop-t
 invariant_loop sheet count t₀ t = (t ≤ count) × (every t (pair_ok sheet) ≡ true)
 
-abbrev decreases_loop : tie.decreases-loop
+abbrev decreases_loop : tie.decreases-loop-t
 decreases_loop sheet count t₀ t = count - t
 
-transition-count-requires : tie.Need-transition-count-requires invariant_loop decreases_loop
+transition-count-requires : tie.Need-transition_count-count-requires invariant_loop decreases_loop
 transition-count-requires c κs = search rules
 
-loop-holds : tie.Need-loop-init invariant_loop decreases_loop
+loop-holds : tie.Need-loop-t-init invariant_loop decreases_loop
 loop-holds c = (zero-le, every_start _)
 
-pair-ok-requires : tie.Need-pair-ok-requires invariant_loop decreases_loop
-pair-ok-requires c κs = record { head = c.before.before.before.before.requires; transition = search rules }
+pair-ok-requires : tie.Need-pair_ok-requires invariant_loop decreases_loop
+pair-ok-requires c κs = record { head = c.requires; transition = search rules }
 
-returns : tie.Need-returns invariant_loop decreases_loop
+returns : tie.Need-returns-then-not-pair_ok invariant_loop decreases_loop
 unfolding pairs_ok
 returns c =
-    let s = c.before.before.before.before.before.before.args.sheet.now in
-    rw (every_fails (pair_ok s) (t_of s) _ (search rules) (failed c.before.pair_ok.ensures c.if1.true))
+    let s = c.args.sheet.now in
+    rw (every_fails (pair_ok s) (t_of s) _ (search rules) (failed c.pair_ok.ensures c.if-not-pair_ok.true-raw))
 
-add-t : tie.Need-overflow-add-t invariant_loop decreases_loop
+add-t : tie.Need-overflow_add-t invariant_loop decreases_loop
 add-t c = search rules
 
-loop-less : tie.Need-loop-smaller invariant_loop decreases_loop
+loop-less : tie.Need-loop-t-smaller invariant_loop decreases_loop
 loop-less c = search rules
 
-loop-again : tie.Need-loop-preserved invariant_loop decreases_loop
-loop-again c = (search rules, every_next _ _ c.before.before.before.loop.invariant.1 (passed c.before.pair_ok.ensures c.if1.false))
+loop-again : tie.Need-loop-t-preserved invariant_loop decreases_loop
+loop-again c = (search rules, every_next _ _ c.loop-t.invariant.1 (passed c.pair_ok.ensures c.if-not-pair_ok.false-raw))
 
-end-before-requires : tie.Need-end-before-requires invariant_loop decreases_loop
+end-before-requires : tie.Need-end_before-requires invariant_loop decreases_loop
 end-before-requires c κs = search rules
 
-returns-2 : tie.Need-returns-2 invariant_loop decreases_loop
+returns-2 : tie.Need-returns invariant_loop decreases_loop
 unfolding pairs_ok
 returns-2 c =
-    let l = c.before.before.loop in
-    let s = c.before.before.before.before.before.args.sheet.now in
-    rw (every_done (pair_ok s) (t_of s) _ (search rules) (search rules) l.invariant.1, c.end_Before.ensures, c.before.before.before.transition-count.ensures)
+    let l = c.loop-t in
+    let s = c.args.sheet.now in
+    rw (every_done (pair_ok s) (t_of s) _ (search rules) (search rules) l.invariant.1, c.end_before.ensures, c.transition_count-count.ensures)
 
-pub pairs-ok-spec : {M : Type 1} → statement M
-pairs-ok-spec =
+pub pairs_ok_spec : {M : Type 1} → statement M
+pairs_ok_spec =
     tie.close
     (tie.spec invariant_loop decreases_loop transition-count-requires loop-holds pair-ok-requires returns add-t loop-less loop-again
     end-before-requires returns-2)

@@ -9,57 +9,57 @@ use Rattle.sets.proofs.Loops.{and_on, and_off, and_last}
 use Rattle.sheet.proofs.terms.or_ok.Statement.{statement}
 use Rattle.sheet.proofs.terms.or_ok.Tie as tie
 
-add-if3 : tie.Need-overflow-add-if3
-add-if3 c = omega (arith, term_room c.before.before.before.requires)
+add-if3 : tie.Need-overflow_add-j
+add-if3 c = omega (arith, term_room c.requires)
 
-term-count-requires : tie.Need-term-count-requires
+term-count-requires : tie.Need-term_count-requires
 term-count-requires c κs = search rules
 
-add-term-kind : tie.Need-overflow-add-term-kind
-add-term-kind c = omega (arith, term_room c.before.before.before.before.requires)
+add-term-kind : tie.Need-overflow_add-j-then-j-term_count
+add-term-kind c = omega (arith, term_room c.requires)
 
-term-kind-requires : tie.Need-term-kind-requires
+term-kind-requires : tie.Need-term_kind-requires
 term-kind-requires c κs =
-    let q = c.before.before.before.before.requires in
+    let q = c.requires in
     record {
       head = q.head;
       pairs = q.pairs;
       transition = q.transition;
-      term = and_last c.before.before.if1.if2 c.before.if2.if3 _ _
+      term = and_last c.if-v-eq0.t-7 c.if-j-gt0.value _ _
           (⊎_elim
-          (λ w. and_on _ _ _ w.0.taken (rw w.1.ensures at w.2))
-          (λ w. and_off _ _ _ w.0.left w.1)
-          c.before.if2.branch)
-          c.if3.true;
+          (λ w. and_on _ _ _ w.if-j-gt0.true-raw (rw w.term_count.ensures at w.value-is))
+          (λ w. and_off _ _ _ w.if-j-gt0.false-raw w.value-is)
+          c.if-j-gt0.branch-raw)
+          c.if-j-term_count.true;
     }
 
-returns : tie.Need-returns
+returns : tie.Need-returns-then-j-term_count
 returns c =
-    or_ok_is _ _ _ c.before.before.before.before.before.args.v _ _ _
+    or_ok_is _ _ _ c.args.v _ _ _
     (⊎_elim
-    (λ w. and_on _ _ _ (eq-eqb _ _ w.0.taken) w.1)
-    (λ w. and_off _ _ _ (ne_eqb _ _ w.0.left) w.1)
-    c.before.before.before.if1.branch)
+    (λ w. and_on _ _ _ (eq-eqb _ _ w.if-v-eq0.true) w.t-7-is)
+    (λ w. and_off _ _ _ (ne_eqb _ _ w.if-v-eq0.false) w.t-7-is)
+    c.if-v-eq0.branch-raw)
     (⊎_elim
-    (λ w. and_on _ _ _ w.0.taken (rw w.1.ensures at w.2))
-    (λ w. and_off _ _ _ w.0.left w.1)
-    c.before.before.if2.branch)
-    (and_on _ _ _ c.before.if3.true (rw c.term-kind.ensures))
+    (λ w. and_on _ _ _ w.if-j-gt0.true-raw (rw w.term_count.ensures at w.value-is))
+    (λ w. and_off _ _ _ w.if-j-gt0.false-raw w.value-is)
+    c.if-j-gt0.branch-raw)
+    (and_on _ _ _ c.if-j-term_count.true (rw c.term_kind.ensures))
 
-returns-2 : tie.Need-returns-2
+returns-2 : tie.Need-returns-else-j-term_count
 returns-2 c =
-    or_ok_is _ _ _ c.before.before.before.before.args.v _ _ _
+    or_ok_is _ _ _ c.args.v _ _ _
     (⊎_elim
-    (λ w. and_on _ _ _ (eq-eqb _ _ w.0.taken) w.1)
-    (λ w. and_off _ _ _ (ne_eqb _ _ w.0.left) w.1)
-    c.before.before.if1.branch)
+    (λ w. and_on _ _ _ (eq-eqb _ _ w.if-v-eq0.true) w.t-7-is)
+    (λ w. and_off _ _ _ (ne_eqb _ _ w.if-v-eq0.false) w.t-7-is)
+    c.if-v-eq0.branch-raw)
     (⊎_elim
-    (λ w. and_on _ _ _ w.0.taken (rw w.1.ensures at w.2))
-    (λ w. and_off _ _ _ w.0.left w.1)
-    c.before.if2.branch)
-    (and_off _ _ _ c.if3.false refl)
+    (λ w. and_on _ _ _ w.if-j-gt0.true-raw (rw w.term_count.ensures at w.value-is))
+    (λ w. and_off _ _ _ w.if-j-gt0.false-raw w.value-is)
+    c.if-j-gt0.branch-raw)
+    (and_off _ _ _ c.if-j-term_count.false refl)
 
-pub or-ok-spec : {M : Type 1} → statement M
-or-ok-spec =
+pub or_ok_spec : {M : Type 1} → statement M
+or_ok_spec =
     tie.close
     (tie.spec add-if3 term-count-requires add-term-kind term-kind-requires returns returns-2)

@@ -6,17 +6,17 @@ use Rattle.sheet.proofs.SheetTestLaws.{head_of}
 use Rattle.sheet.proofs.words.first.Statement.{statement}
 use Rattle.sheet.proofs.words.first.Tie as tie
 
-mul_wide : tie.Need-overflow-mul-wide
-mul_wide c = omega (arith, head_of _ c.before.requires.head)
+mul_wide : tie.Need-overflow_mul-m
+mul_wide c = omega (arith, head_of _ c.requires.head)
 
-add_wide : tie.Need-overflow-add-wide
-add_wide c = omega (arith, head_of _ c.before.requires.head)
+add_wide : tie.Need-overflow_add-m
+add_wide c = omega (arith, head_of _ c.requires.head)
 
-mul-wide-2 : tie.Need-overflow-mul-wide-2
-mul-wide-2 c = omega (arith, head_of _ c.before.requires.head)
+mul-wide-2 : tie.Need-offset_bounds-sheet-m
+mul-wide-2 c = omega (arith, head_of _ c.requires.head)
 
-shared-slice-read-wide : tie.Need-shared-slice-read-wide
-shared-slice-read-wide c = omega (arith, head_of _ c.before.before.requires.head)
+shared-slice-read-wide : tie.Need-bounds-sheet-m
+shared-slice-read-wide c = omega (arith, head_of _ c.requires.head)
 
 wide-requires : tie.Need-wide-requires
 wide-requires c κs = search rules

@@ -8,13 +8,13 @@ use Rattle.sheet.proofs.words.is_child.Tie as tie
 parent-requires : tie.Need-parent-requires
 parent-requires c κs = search rules
 
-returns : tie.Need-returns
+returns : tie.Need-returns-then-m-gt0
 unfolding is_child
-returns c = rw (lt-ltb _ _ c.before.if1.true, c.parent.ensures)
+returns c = rw (lt-ltb _ _ c.if-m-gt0.true, c.parent.ensures)
 
-returns-2 : tie.Need-returns-2
+returns-2 : tie.Need-returns-else-m-gt0
 unfolding is_child
-returns-2 c = rw (le-ltb _ _ c.if1.false)
+returns-2 c = rw (le-ltb _ _ c.if-m-gt0.false)
 
-pub is-child-spec : {M : Type 1} → statement M
-is-child-spec = tie.close (tie.spec parent-requires returns returns-2)
+pub is_child_spec : {M : Type 1} → statement M
+is_child_spec = tie.close (tie.spec parent-requires returns returns-2)

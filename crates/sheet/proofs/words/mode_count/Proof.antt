@@ -6,8 +6,8 @@ use Rattle.sheet.proofs.SheetTestLaws.{head_of}
 use Rattle.sheet.proofs.words.mode_count.Statement.{statement}
 use Rattle.sheet.proofs.words.mode_count.Tie as tie
 
-shared-slice-read-wide : tie.Need-shared-slice-read-wide
-shared-slice-read-wide c = omega (arith, head_of _ c.before.before.requires)
+shared-slice-read-wide : tie.Need-bounds-sheet-0
+shared-slice-read-wide c = omega (arith, head_of _ c.requires)
 
 wide-requires : tie.Need-wide-requires
 wide-requires c κs = search rules
@@ -16,5 +16,5 @@ returns : tie.Need-returns
 unfolding n_of word
 returns c = c.wide.ensures
 
-pub mode-count-spec : {M : Type 1} → statement M
-mode-count-spec = tie.close (tie.spec shared-slice-read-wide wide-requires returns)
+pub mode_count_spec : {M : Type 1} → statement M
+mode_count_spec = tie.close (tie.spec shared-slice-read-wide wide-requires returns)

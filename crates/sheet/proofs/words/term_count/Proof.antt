@@ -6,15 +6,15 @@ use Rattle.sheet.proofs.SheetTestLaws.{placed}
 use Rattle.sheet.proofs.words.term_count.Statement.{statement}
 use Rattle.sheet.proofs.words.term_count.Tie as tie
 
-record-length-requires : tie.Need-record-length-requires
+record-length-requires : tie.Need-record_length-requires
 record-length-requires c κs = search rules
 
-sub-result : tie.Need-overflow-sub-result
-sub-result c = omega (arith, placed c.before.before.requires)
+sub-result : tie.Need-overflow_sub-result
+sub-result c = omega (arith, placed c.requires)
 
 returns : tie.Need-returns
 unfolding term_count
-returns c = rw c.record-length.ensures
+returns c = rw c.record_length.ensures
 
-pub term-count-spec : {M : Type 1} → statement M
-term-count-spec = tie.close (tie.spec record-length-requires sub-result returns)
+pub term_count_spec : {M : Type 1} → statement M
+term_count_spec = tie.close (tie.spec record-length-requires sub-result returns)

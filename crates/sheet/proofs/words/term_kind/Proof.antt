@@ -9,26 +9,26 @@ use Rattle.sheet.proofs.words.term_kind.Tie as tie
 offset-requires : tie.Need-offset-requires
 offset-requires c κs = search rules
 
-add-result : tie.Need-overflow-add-result
-add-result c = omega (arith, term_room c.before.before.requires)
+add-result : tie.Need-overflow_add-result
+add-result c = omega (arith, term_room c.requires)
 
-mul-result : tie.Need-overflow-mul-result
-mul-result c = omega (arith, term_room c.before.before.requires)
+mul-result : tie.Need-overflow_mul-result
+mul-result c = omega (arith, term_room c.requires)
 
-add-result-2 : tie.Need-overflow-add-result-2
-add-result-2 c = omega (arith, term_room c.before.before.requires)
+add-result-2 : tie.Need-overflow_add-result-2
+add-result-2 c = omega (arith, term_room c.requires)
 
-mul-result-2 : tie.Need-overflow-mul-result-2
-mul-result-2 c = omega (arith, term_room c.before.before.requires)
+mul-result-2 : tie.Need-offset_bounds-sheet-offset
+mul-result-2 c = omega (arith, term_room c.requires)
 
-shared-slice-read-result : tie.Need-shared-slice-read-result
-shared-slice-read-result c = omega (arith, term_room c.before.before.before.requires)
+shared-slice-read-result : tie.Need-bounds-sheet-offset
+shared-slice-read-result c = omega (arith, term_room c.requires)
 
 returns : tie.Need-returns
 unfolding term_kind word
-returns c = rw c.before.offset.ensures
+returns c = rw c.offset.ensures
 
-pub term-kind-spec : {M : Type 1} → statement M
-term-kind-spec =
+pub term_kind_spec : {M : Type 1} → statement M
+term_kind_spec =
     tie.close
     (tie.spec offset-requires add-result mul-result add-result-2 mul-result-2 shared-slice-read-result returns)
