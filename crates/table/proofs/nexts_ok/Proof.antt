@@ -12,44 +12,44 @@ use Rattle.table.proofs.LayoutFacts.{head_sound, pairs_sound, block_head_sound}
 use Rattle.table.proofs.nexts_ok.Statement.{statement}
 use Rattle.table.proofs.nexts_ok.Tie as tie
 
-abbrev invariant_loop : tie.invariant-loop
+abbrev invariant_loop : tie.invariant-loop-b
 invariant_loop table count b₀ b = (b ≤ count) × (every b (next_blocks_ok table) ≡ true)
 
-abbrev decreases_loop : tie.decreases-loop
+abbrev decreases_loop : tie.decreases-loop-b
 decreases_loop table count b₀ b = count - b
 
-block-count-requires : tie.Need-block-count-requires invariant_loop decreases_loop
-block-count-requires c κs = head_sound _ c.before.requires
+block-count-requires : tie.Need-block_count-count-requires invariant_loop decreases_loop
+block-count-requires c κs = head_sound _ c.requires
 
-loop-holds : tie.Need-loop-init invariant_loop decreases_loop
+loop-holds : tie.Need-loop-b-init invariant_loop decreases_loop
 loop-holds c = (zero-le, every_start _)
 
-next-blocks-ok-requires : tie.Need-next-blocks-ok-requires invariant_loop decreases_loop
+next-blocks-ok-requires : tie.Need-next_blocks_ok-requires invariant_loop decreases_loop
 next-blocks-ok-requires c κs =
     let s = c.before.before.before.before in
     let h = s.requires in
-    let l : c.before.loop.b < b_in s.args.table.now = search rules in
+    let l : c.loop-b.b < b_in s.args.table.now = search rules in
     (head_sound _ h, pairs_sound _ h, l, block_head_sound _ h _ l)
 
-returns : tie.Need-returns invariant_loop decreases_loop
+returns : tie.Need-returns-then-not-next_blocks_ok invariant_loop decreases_loop
 unfolding nexts_ok
-returns c = sym (every_fails _ _ _ (search rules) (failed c.before.next-blocks-ok.ensures c.if1.true))
+returns c = sym (every_fails _ _ _ (search rules) (failed c.next_blocks_ok.ensures c.if-not-next_blocks_ok.true-raw))
 
-add-b : tie.Need-overflow-add-b invariant_loop decreases_loop
+add-b : tie.Need-overflow_add-b invariant_loop decreases_loop
 add-b c = search rules
 
-loop-less : tie.Need-loop-smaller invariant_loop decreases_loop
+loop-less : tie.Need-loop-b-smaller invariant_loop decreases_loop
 loop-less c = search rules
 
-loop-again : tie.Need-loop-preserved invariant_loop decreases_loop
-loop-again c = (search rules, every_next _ _ c.before.before.before.loop.invariant.1 (passed c.before.next-blocks-ok.ensures c.if1.false))
+loop-again : tie.Need-loop-b-preserved invariant_loop decreases_loop
+loop-again c = (search rules, every_next _ _ c.loop-b.invariant.1 (passed c.next_blocks_ok.ensures c.if-not-next_blocks_ok.false-raw))
 
-returns-2 : tie.Need-returns-2 invariant_loop decreases_loop
+returns-2 : tie.Need-returns invariant_loop decreases_loop
 unfolding nexts_ok
-returns-2 c = sym (every_done _ _ _ (search rules) (search rules) c.before.loop.invariant.1)
+returns-2 c = sym (every_done _ _ _ (search rules) (search rules) c.loop-b.invariant.1)
 
-pub nexts-ok-spec : {M : Type 1} → statement M
-nexts-ok-spec =
+pub nexts_ok_spec : {M : Type 1} → statement M
+nexts_ok_spec =
     tie.close
     (tie.spec invariant_loop decreases_loop block-count-requires loop-holds next-blocks-ok-requires returns add-b loop-less
     loop-again returns-2)

@@ -20,81 +20,81 @@ use Rattle.table.proofs.pairs_ok.Tie as tie
 abbrev begins : List ℕ → ℕ → Bool
 begins w i = eqb (offset_in w i) (end_before_in w i)
 
-abbrev invariant_loop : tie.invariant-loop
+abbrev invariant_loop : tie.invariant-loop-b
 invariant_loop table count end₀ b₀ end b =
     (b ≤ count) × (end ≡ end_before_in table b) × (every b (begins table) ≡ true)
 
-abbrev decreases_loop : tie.decreases-loop
+abbrev decreases_loop : tie.decreases-loop-b
 decreases_loop table count end₀ b₀ end b = count - b
 
-block-count-requires : tie.Need-block-count-requires invariant_loop decreases_loop
+block-count-requires : tie.Need-block_count-count-requires invariant_loop decreases_loop
 block-count-requires c κs = search rules
 
-transition-count-requires : tie.Need-transition-count-requires invariant_loop decreases_loop
+transition-count-requires : tie.Need-transition_count-requires invariant_loop decreases_loop
 transition-count-requires c κs = search rules
 
-add-end : tie.Need-overflow-add-end invariant_loop decreases_loop
-add-end c = omega (arith, head_of _ c.before.before.before.requires)
+add-end : tie.Need-overflow_add-end invariant_loop decreases_loop
+add-end c = omega (arith, head_of _ c.requires)
 
-mul-end : tie.Need-overflow-mul-end invariant_loop decreases_loop
-mul-end c = omega (arith, head_of _ c.before.before.before.requires)
+mul-end : tie.Need-overflow_mul-end invariant_loop decreases_loop
+mul-end c = omega (arith, head_of _ c.requires)
 
-add-end-2 : tie.Need-overflow-add-end-2 invariant_loop decreases_loop
-add-end-2 c = omega (arith, head_of _ c.before.before.before.requires)
+add-end-2 : tie.Need-overflow_add-end-2 invariant_loop decreases_loop
+add-end-2 c = omega (arith, head_of _ c.requires)
 
-loop-holds : tie.Need-loop-init invariant_loop decreases_loop
+loop-holds : tie.Need-loop-b-init invariant_loop decreases_loop
 loop-holds c =
-    let w = c.before.before.before.args.table.now in
+    let w = c.args.table.now in
     (zero-le, omega (arith, end_first w), every_start _)
 
 offset-requires : tie.Need-offset-requires invariant_loop decreases_loop
 offset-requires c κs = search rules
 
-returns : tie.Need-returns invariant_loop decreases_loop
+returns : tie.Need-returns-then-offset-end invariant_loop decreases_loop
 unfolding table_pairs_ok
 returns c =
-    let l = c.before.before.before.loop in
-    let w = c.before.before.before.before.before.before.before.args.table.now in
-    rw (every_fails (begins w) (b_in w) l.b (omega arith) (ne_eqb _ _ (λ e. c.if1.true (c.before.offset.ensures ∙ e ∙ sym l.invariant.1))))
+    let l = c.loop-b in
+    let w = c.args.table.now in
+    rw (every_fails (begins w) (b_in w) l.b (omega arith) (ne_eqb _ _ (λ e. c.if-offset-end.true (c.offset.ensures ∙ e ∙ sym l.invariant.1))))
 
-block-length-requires : tie.Need-block-length-requires invariant_loop decreases_loop
+block-length-requires : tie.Need-block_length-end-requires invariant_loop decreases_loop
 block-length-requires c κs = search rules
 
 -- the table's words fit 32 bits, and so do an offset and a length
-add-end-3 : tie.Need-overflow-add-end-3 invariant_loop decreases_loop
+add-end-3 : tie.Need-overflow_add-end-in-loop-b invariant_loop decreases_loop
 unfolding offset_in length_in word_in
 add-end-3 c =
-    let l = c.before.before.before.before.loop in
+    let l = c.loop-b in
     let s = c.before.before.before.before.before.before.before in
-    let w = s.before.args.table.now in
-    let known = s.shared-slice-known.given in
+    let w = s.args.table.now in
+    let known = s.shared_slice_known-1.given in
     omega (arith, known (4 + t_in w + 2 * l.b), known (5 + t_in w + 2 * l.b))
 
-add-b : tie.Need-overflow-add-b invariant_loop decreases_loop
+add-b : tie.Need-overflow_add-b invariant_loop decreases_loop
 add-b c = search rules
 
-loop-less : tie.Need-loop-smaller invariant_loop decreases_loop
+loop-less : tie.Need-loop-b-smaller invariant_loop decreases_loop
 loop-less c = search rules
 
-loop-again : tie.Need-loop-preserved invariant_loop decreases_loop
+loop-again : tie.Need-loop-b-preserved invariant_loop decreases_loop
 loop-again c =
-    let l = c.before.before.before.before.loop in
-    let w = c.before.before.before.before.before.before.before.before.args.table.now in (
+    let l = c.loop-b in
+    let w = c.args.table.now in (
       omega arith,
       omega (arith, end_after w l.b),
-      every_next (begins w) l.b l.invariant.2 (eq-eqb _ _ (sym c.before.before.offset.ensures ∙ c.before.if1.false ∙ l.invariant.1)),
+      every_next (begins w) l.b l.invariant.2 (eq-eqb _ _ (sym c.offset.ensures ∙ c.if-offset-end.false ∙ l.invariant.1)),
     )
 
-returns-2 : tie.Need-returns-2 invariant_loop decreases_loop
+returns-2 : tie.Need-returns invariant_loop decreases_loop
 unfolding table_pairs_ok
 returns-2 c =
-    let l = c.before.loop in
-    let w = c.before.before.before.before.before.args.table.now in
+    let l = c.loop-b in
+    let w = c.args.table.now in
     let e : l.b ≡ b_in w = omega arith in
     rw (every_done (begins w) (b_in w) l.b (omega arith) (omega arith) l.invariant.2, l.invariant.1, e)
 
-pub pairs-ok-spec : {M : Type 1} → statement M
-pairs-ok-spec =
+pub pairs_ok_spec : {M : Type 1} → statement M
+pairs_ok_spec =
     tie.close
     (tie.spec invariant_loop decreases_loop block-count-requires transition-count-requires add-end mul-end add-end-2 loop-holds
     offset-requires returns block-length-requires add-end-3 add-b loop-less loop-again returns-2)

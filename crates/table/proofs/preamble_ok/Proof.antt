@@ -6,28 +6,28 @@ use Rattle.sets.proofs.Loops.{passed, failed}
 use Rattle.table.proofs.preamble_ok.Statement.{statement}
 use Rattle.table.proofs.preamble_ok.Tie as tie
 
-head-ok-requires : tie.Need-head-ok-requires
+head-ok-requires : tie.Need-head_ok-requires
 head-ok-requires c κs = search rules
 
-returns : tie.Need-returns
-returns c = rw (failed c.before.head_ok.ensures c.if1.true)
+returns : tie.Need-returns-then-not-head_ok
+returns c = rw (failed c.head_ok.ensures c.if-not-head_ok.true-raw)
 
-timers-ok-requires : tie.Need-timers-ok-requires
-timers-ok-requires c κs = of_true (passed c.before.head_ok.ensures c.if1.false)
+timers-ok-requires : tie.Need-timers_ok-requires
+timers-ok-requires c κs = of_true (passed c.head_ok.ensures c.if-not-head_ok.false-raw)
 
-pairs-ok-requires : tie.Need-pairs-ok-requires
-pairs-ok-requires c κs = of_true (passed c.before.before.before.head_ok.ensures c.before.before.if1.false)
+pairs-ok-requires : tie.Need-pairs_ok-requires
+pairs-ok-requires c κs = of_true (passed c.head_ok.ensures c.if-not-head_ok.false-raw)
 
-returns-2 : tie.Need-returns-2
+returns-2 : tie.Need-returns-then-timers_ok
 returns-2 c =
     let t = c.before.before in
-    rw (passed t.before.before.head_ok.ensures t.before.if1.false, sym t.timers-ok.ensures ∙ c.before.if2.true) c.pairs-ok.ensures
+    rw (passed t.head_ok.ensures t.if-not-head_ok.false-raw, sym t.timers_ok.ensures ∙ c.if-timers_ok.true) c.pairs_ok.ensures
 
-returns-3 : tie.Need-returns-3
+returns-3 : tie.Need-returns-else-timers_ok
 returns-3 c =
     let t = c.before in
-    rw (passed t.before.before.head_ok.ensures t.before.if1.false, sym t.timers-ok.ensures ∙ c.if2.false) c.if2.false
+    rw (passed t.head_ok.ensures t.if-not-head_ok.false-raw, sym t.timers_ok.ensures ∙ c.if-timers_ok.false) c.if-timers_ok.false
 
-pub preamble-ok-spec : {M : Type 1} → statement M
-preamble-ok-spec =
+pub preamble_ok_spec : {M : Type 1} → statement M
+preamble_ok_spec =
     tie.close (tie.spec head-ok-requires returns timers-ok-requires pairs-ok-requires returns-2 returns-3)

@@ -10,41 +10,41 @@ use Rattle.table.specs.Parts.{block_head_ok}
 use Rattle.table.proofs.blocks.block_heads_ok.Statement.{statement}
 use Rattle.table.proofs.blocks.block_heads_ok.Tie as tie
 
-abbrev invariant_loop : tie.invariant-loop
+abbrev invariant_loop : tie.invariant-loop-b
 invariant_loop table count with-delay b₀ b = (b ≤ count) × (every b (block_head_ok table) ≡ true)
 
-abbrev decreases_loop : tie.decreases-loop
+abbrev decreases_loop : tie.decreases-loop-b
 decreases_loop table count with-delay b₀ b = count - b
 
-block-count-requires : tie.Need-block-count-requires invariant_loop decreases_loop
+block-count-requires : tie.Need-block_count-count-requires invariant_loop decreases_loop
 block-count-requires c κs = search rules
 
-delayed-requires : tie.Need-delayed-requires invariant_loop decreases_loop
+delayed-requires : tie.Need-delayed-with_delay-requires invariant_loop decreases_loop
 delayed-requires c κs = search rules
 
-loop-holds : tie.Need-loop-init invariant_loop decreases_loop
+loop-holds : tie.Need-loop-b-init invariant_loop decreases_loop
 loop-holds c = (zero-le, every_start _)
 
-block-head-ok-requires : tie.Need-block-head-ok-requires invariant_loop decreases_loop
+block-head-ok-requires : tie.Need-block_head_ok-requires invariant_loop decreases_loop
 block-head-ok-requires c κs = search rules
 
-returns : tie.Need-returns invariant_loop decreases_loop
-returns c = sym (every_fails _ _ _ (search rules) (failed c.before.block-head-ok.ensures c.if1.true))
+returns : tie.Need-returns-then-not-block_head_ok invariant_loop decreases_loop
+returns c = sym (every_fails _ _ _ (search rules) (failed c.block_head_ok.ensures c.if-not-block_head_ok.true-raw))
 
-add-b : tie.Need-overflow-add-b invariant_loop decreases_loop
+add-b : tie.Need-overflow_add-b invariant_loop decreases_loop
 add-b c = search rules
 
-loop-less : tie.Need-loop-smaller invariant_loop decreases_loop
+loop-less : tie.Need-loop-b-smaller invariant_loop decreases_loop
 loop-less c = search rules
 
-loop-again : tie.Need-loop-preserved invariant_loop decreases_loop
-loop-again c = (search rules, every_next _ _ c.before.before.before.loop.invariant.1 (passed c.before.block-head-ok.ensures c.if1.false))
+loop-again : tie.Need-loop-b-preserved invariant_loop decreases_loop
+loop-again c = (search rules, every_next _ _ c.loop-b.invariant.1 (passed c.block_head_ok.ensures c.if-not-block_head_ok.false-raw))
 
-returns-2 : tie.Need-returns-2 invariant_loop decreases_loop
-returns-2 c = sym (every_done _ _ _ (search rules) (search rules) c.before.loop.invariant.1)
+returns-2 : tie.Need-returns invariant_loop decreases_loop
+returns-2 c = sym (every_done _ _ _ (search rules) (search rules) c.loop-b.invariant.1)
 
-pub block-heads-ok-spec : {M : Type 1} → statement M
-block-heads-ok-spec =
+pub block_heads_ok_spec : {M : Type 1} → statement M
+block_heads_ok_spec =
     tie.close
     (tie.spec invariant_loop decreases_loop block-count-requires delayed-requires loop-holds block-head-ok-requires returns add-b
     loop-less loop-again returns-2)

@@ -7,35 +7,35 @@ use Rattle.table.proofs.Places.{head_of}
 use Rattle.table.proofs.words.offset.Statement.{statement}
 use Rattle.table.proofs.words.offset.Tie as tie
 
-transition-count-requires : tie.Need-transition-count-requires
+transition-count-requires : tie.Need-transition_count-requires
 transition-count-requires c κs = search rules
 
-add-result : tie.Need-overflow-add-result
-add-result c = omega (arith, head_of _ c.before.before.requires.0)
+add-result : tie.Need-overflow_add-result
+add-result c = omega (arith, head_of _ c.requires.0)
 
-mul-result : tie.Need-overflow-mul-result
-mul-result c = omega (arith, head_of _ c.before.before.requires.0)
+mul-result : tie.Need-overflow_mul-result
+mul-result c = omega (arith, head_of _ c.requires.0)
 
-add-result-2 : tie.Need-overflow-add-result-2
-add-result-2 c = omega (arith, head_of _ c.before.before.requires.0)
+add-result-2 : tie.Need-overflow_add-result-2
+add-result-2 c = omega (arith, head_of _ c.requires.0)
 
-mul-result-2 : tie.Need-overflow-mul-result-2
-mul-result-2 c = omega (arith, head_of _ c.before.before.requires.0)
+mul-result-2 : tie.Need-offset_bounds-table-transition_count
+mul-result-2 c = omega (arith, head_of _ c.requires.0)
 
-shared-slice-read-result : tie.Need-shared-slice-read-result
-shared-slice-read-result c = omega (arith, head_of _ c.before.before.before.requires.0)
+shared-slice-read-result : tie.Need-bounds-table-transition_count
+shared-slice-read-result c = omega (arith, head_of _ c.requires.0)
 
-cast-result : tie.Need-overflow-cast-result
+cast-result : tie.Need-overflow_cast-result
 cast-result c =
     let s = c.before.before.before in
-    omega (arith, c.shared-slice-known2.given (4 + c.before.transition-count.result + 2 * s.args.b))
+    omega (arith, c.shared_slice_known-2-1.given (4 + c.transition_count.result + 2 * s.args.b))
 
 returns : tie.Need-returns
 unfolding offset_in word_in
-returns c = rw c.before.transition-count.ensures
+returns c = rw c.transition_count.ensures
 
-pub offset-spec : {M : Type 1} → statement M
-offset-spec =
+pub offset_spec : {M : Type 1} → statement M
+offset_spec =
     tie.close
     (tie.spec transition-count-requires add-result mul-result add-result-2 mul-result-2 shared-slice-read-result
     cast-result returns)

@@ -7,22 +7,22 @@ use Rattle.table.proofs.Places.{head_of}
 use Rattle.table.proofs.words.timer_delay.Statement.{statement}
 use Rattle.table.proofs.words.timer_delay.Tie as tie
 
-add-result : tie.Need-overflow-add-result
+add-result : tie.Need-overflow_add-result
 add-result c = omega (arith, head_of _ c.requires.0)
 
-mul-result : tie.Need-overflow-mul-result
+mul-result : tie.Need-offset_bounds-table-t
 mul-result c = omega (arith, head_of _ c.requires.0)
 
-shared-slice-read-result : tie.Need-shared-slice-read-result
-shared-slice-read-result c = omega (arith, head_of _ c.before.requires.0)
+shared-slice-read-result : tie.Need-bounds-table-t
+shared-slice-read-result c = omega (arith, head_of _ c.requires.0)
 
-cast-result : tie.Need-overflow-cast-result
+cast-result : tie.Need-overflow_cast-result
 cast-result c = search rules
 
 returns : tie.Need-returns
 unfolding delay_in word_in
 returns c = refl
 
-pub timer-delay-spec : {M : Type 1} → statement M
-timer-delay-spec =
+pub timer_delay_spec : {M : Type 1} → statement M
+timer_delay_spec =
     tie.close (tie.spec add-result mul-result shared-slice-read-result cast-result returns)

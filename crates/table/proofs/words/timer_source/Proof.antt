@@ -7,22 +7,22 @@ use Rattle.table.proofs.Places.{head_of}
 use Rattle.table.proofs.words.timer_source.Statement.{statement}
 use Rattle.table.proofs.words.timer_source.Tie as tie
 
-add-result : tie.Need-overflow-add-result
+add-result : tie.Need-overflow_add-result
 add-result c = omega (arith, head_of _ c.requires.0)
 
-mul-result : tie.Need-overflow-mul-result
+mul-result : tie.Need-offset_bounds-table-t
 mul-result c = omega (arith, head_of _ c.requires.0)
 
-shared-slice-read-result : tie.Need-shared-slice-read-result
-shared-slice-read-result c = omega (arith, head_of _ c.before.requires.0)
+shared-slice-read-result : tie.Need-bounds-table-t
+shared-slice-read-result c = omega (arith, head_of _ c.requires.0)
 
-cast-result : tie.Need-overflow-cast-result
-cast-result c = omega (arith, c.shared-slice-known.given (4 + c.before.args.t))
+cast-result : tie.Need-overflow_cast-result
+cast-result c = omega (arith, c.shared_slice_known-1.given (4 + c.args.t))
 
 returns : tie.Need-returns
 unfolding source_in word_in
 returns c = refl
 
-pub timer-source-spec : {M : Type 1} → statement M
-timer-source-spec =
+pub timer_source_spec : {M : Type 1} → statement M
+timer_source_spec =
     tie.close (tie.spec add-result mul-result shared-slice-read-result cast-result returns)
