@@ -15,42 +15,42 @@ use Rattle.run.proofs.ages.enter.Tie as tie
 abbrev limit : ℕ → ℕ → ℕ
 limit tick m = tick + 65535
 
-abbrev invariant_loop : tie.invariant-loop
+abbrev invariant_loop : tie.invariant-loop-rest
 invariant_loop limits₀ set tick rest₀ limits rest = (rest < 2 ^ 32) × (length limits ≡ 32) × (filled 32 (limit tick) limits rest ≡ filled 32 (limit tick) limits₀ set)
 
-abbrev decreases_loop : tie.decreases-loop
+abbrev decreases_loop : tie.decreases-loop-rest
 decreases_loop limits₀ set tick rest₀ limits rest = rest
 
-loop-holds : tie.Need-loop-init invariant_loop decreases_loop
+loop-holds : tie.Need-loop-rest-init invariant_loop decreases_loop
 loop-holds c = (c.ranges.set.fits, c.requires.0, refl)
 
-known : (c : tie.After-lowest invariant_loop decreases_loop) {r : ℕ} → r ≡ minus c.before.before.loop.rest (single (lowest 32 c.before.before.loop.rest))
-    → Turn 32 c.before.before.loop.rest c.lowest.result r
-known c e = turn 32 c.before.before.loop.rest c.before.before.loop.invariant.0 c.before.loop-test.true c.lowest.ensures e
+known : (c : tie.After-lowest-m invariant_loop decreases_loop) {r : ℕ} → r ≡ minus c.loop-rest.rest (single (lowest 32 c.loop-rest.rest))
+    → Turn 32 c.loop-rest.rest c.lowest-m.result r
+known c e = turn 32 c.loop-rest.rest c.loop-rest.invariant.0 c.loop-rest-test.true c.lowest-m.ensures e
 
-lowest-requires : tie.Need-lowest-requires invariant_loop decreases_loop
+lowest-requires : tie.Need-lowest-m-requires invariant_loop decreases_loop
 lowest-requires c κs = search rules
 
-add-limits : tie.Need-overflow-add-limits invariant_loop decreases_loop
-add-limits c = omega (arith, c.before.before.before.requires.1)
+add-limits : tie.Need-overflow_add-limits invariant_loop decreases_loop
+add-limits c = omega (arith, c.requires.1)
 
-mul-limits : tie.Need-overflow-mul-limits invariant_loop decreases_loop
+mul-limits : tie.Need-offset_bounds-limits-m invariant_loop decreases_loop
 mul-limits c = omega (arith, (known c refl).lowest.small)
 
-element-write-limits : tie.Need-element-write-limits invariant_loop decreases_loop
-element-write-limits c = omega (arith, (known c refl).lowest.small)
+element-write-limits : tie.Need-bounds-limits-m invariant_loop decreases_loop
+element-write-limits c = omega (arith, (known c.before refl).lowest.small)
 
-without-lowest-requires : tie.Need-without-lowest-requires invariant_loop decreases_loop
-without-lowest-requires c κs = (known c refl).filled
+without-lowest-requires : tie.Need-without_lowest-rest-requires invariant_loop decreases_loop
+without-lowest-requires c κs = (known c.before refl).filled
 
-loop-less : tie.Need-loop-smaller invariant_loop decreases_loop
-loop-less c = (known c.before c.without-lowest.ensures).less
+loop-less : tie.Need-loop-rest-smaller invariant_loop decreases_loop
+loop-less c = (known c.before.before c.without_lowest-rest.ensures).less
 
-loop-again : tie.Need-loop-preserved invariant_loop decreases_loop
+loop-again : tie.Need-loop-rest-preserved invariant_loop decreases_loop
 loop-again c =
-    let u = known c.before c.without-lowest.ensures in
-    let l = c.before.before.before.loop in
-    let a = c.before.before.before.before.args in (
+    let u = known c.before.before c.without_lowest-rest.ensures in
+    let l = c.loop-rest in
+    let a = c.args in (
       u.fits,
       simp length-set l.invariant.1,
       filled_turn 32 (limit a.tick) l.limits u l.invariant.1 ∙ l.invariant.2,
@@ -58,9 +58,9 @@ loop-again c =
 
 returns : tie.Need-returns invariant_loop decreases_loop
 returns c =
-    let l = c.before.loop in
-    let a = c.before.before.args in
-    filled_done 32 (limit a.tick) l.limits l.rest c.loop-test.false l.invariant.1 ∙ l.invariant.2
+    let l = c.loop-rest in
+    let a = c.args in
+    filled_done 32 (limit a.tick) l.limits l.rest c.loop-rest-test.false l.invariant.1 ∙ l.invariant.2
 
 pub enter_spec : {M : Type 1} → statement M
 enter_spec =

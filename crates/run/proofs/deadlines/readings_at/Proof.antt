@@ -20,58 +20,58 @@ use Rattle.run.proofs.deadlines.readings_at.Tie as tie
 abbrev reading_at : List ℕ → ℕ → ℕ → ℕ
 reading_at ends tick t = (get_or ends t 0 - tick) % 2 ^ 32
 
-abbrev invariant_loop : tie.invariant-loop
+abbrev invariant_loop : tie.invariant-loop-rest
 invariant_loop ends timers tick r₀ rest₀ r rest =
     (rest < 2 ^ 64) × Subset rest timers × (length r ≡ 64)
     × (filled 64 (reading_at ends tick) r rest ≡ row_from 0 64 (λ t. cond (has timers t) (reading_at ends tick t) 0))
 
-abbrev decreases_loop : tie.decreases-loop
+abbrev decreases_loop : tie.decreases-loop-rest
 decreases_loop ends timers tick r₀ rest₀ r rest = rest
 
-loop-holds : tie.Need-loop-init invariant_loop decreases_loop
+loop-holds : tie.Need-loop-rest-init invariant_loop decreases_loop
 loop-holds c =
     let a = c.args in
     (c.ranges.timers.fits, λ i h. h, search rules, filled_none 64 (reading_at a.ends.now a.tick) a.timers)
 
-known : (c : tie.After-lowest invariant_loop decreases_loop) {r : ℕ} → r ≡ minus c.before.before.loop.rest (single (lowest 64 c.before.before.loop.rest))
-    → Turn 64 c.before.before.loop.rest c.lowest.result r
-known c e = turn 64 c.before.before.loop.rest c.before.before.loop.invariant.0 c.before.loop-test.true c.lowest.ensures e
+known : (c : tie.After-lowest-t invariant_loop decreases_loop) {r : ℕ} → r ≡ minus c.loop-rest.rest (single (lowest 64 c.loop-rest.rest))
+    → Turn 64 c.loop-rest.rest c.lowest-t.result r
+known c e = turn 64 c.loop-rest.rest c.loop-rest.invariant.0 c.loop-rest-test.true c.lowest-t.ensures e
 
-lowest-requires : tie.Need-lowest-requires invariant_loop decreases_loop
+lowest-requires : tie.Need-lowest-t-requires invariant_loop decreases_loop
 lowest-requires c κs = search rules
 
-mul-r : tie.Need-overflow-mul-r invariant_loop decreases_loop
+mul-r : tie.Need-offset_bounds-ends-t invariant_loop decreases_loop
 mul-r c = omega (arith, (known c refl).lowest.small)
 
-element-copy-out-r : tie.Need-element-copy-out-r invariant_loop decreases_loop
-element-copy-out-r c = omega (arith, (known c refl).lowest.small)
+element-copy-out-r : tie.Need-bounds-ends-t invariant_loop decreases_loop
+element-copy-out-r c = omega (arith, (known c.before refl).lowest.small)
 
-sub-r : tie.Need-overflow-sub-r invariant_loop decreases_loop
+sub-r : tie.Need-overflow_sub-r invariant_loop decreases_loop
 sub-r c =
-    let u = known c.before refl in
-    let l = c.before.before.before.loop in
-    c.before.before.before.before.requires c.before.lowest.result (is_true _ (l.invariant.1 c.before.lowest.result (of_true u.lowest.member)))
+    let u = known c.before.before refl in
+    let l = c.loop-rest in
+    c.requires c.lowest-t.result (is_true _ (l.invariant.1 c.lowest-t.result (of_true u.lowest.member)))
 
-cast-r : tie.Need-overflow-cast-r invariant_loop decreases_loop
+cast-r : tie.Need-overflow_cast-r invariant_loop decreases_loop
 cast-r c = search rules
 
-mul-r-2 : tie.Need-overflow-mul-r-2 invariant_loop decreases_loop
-mul-r-2 c = omega (arith, (known c.before refl).lowest.small)
+mul-r-2 : tie.Need-offset_bounds-r-t invariant_loop decreases_loop
+mul-r-2 c = omega (arith, (known c.before.before refl).lowest.small)
 
-array-write-r : tie.Need-array-write-r invariant_loop decreases_loop
-array-write-r c = omega (arith, (known c.before refl).lowest.small)
+array-write-r : tie.Need-bounds-r-t invariant_loop decreases_loop
+array-write-r c = omega (arith, (known c.before.before refl).lowest.small)
 
-without-lowest-requires : tie.Need-without-lowest-requires invariant_loop decreases_loop
-without-lowest-requires c κs = (known c.before refl).filled
+without-lowest-requires : tie.Need-without_lowest-rest-requires invariant_loop decreases_loop
+without-lowest-requires c κs = (known c.before.before refl).filled
 
-loop-less : tie.Need-loop-smaller invariant_loop decreases_loop
-loop-less c = (known c.before.before c.without-lowest.ensures).less
+loop-less : tie.Need-loop-rest-smaller invariant_loop decreases_loop
+loop-less c = (known c.before.before.before c.without_lowest-rest.ensures).less
 
-loop-again : tie.Need-loop-preserved invariant_loop decreases_loop
+loop-again : tie.Need-loop-rest-preserved invariant_loop decreases_loop
 loop-again c =
-    let u = known c.before.before c.without-lowest.ensures in
-    let l = c.before.before.before.before.loop in
-    let a = c.before.before.before.before.before.args in (
+    let u = known c.before.before.before c.without_lowest-rest.ensures in
+    let l = c.loop-rest in
+    let a = c.args in (
       u.fits,
       subset_turn a.timers u l.invariant.1,
       simp length-set l.invariant.2,
@@ -80,12 +80,12 @@ loop-again c =
 
 returns : tie.Need-returns invariant_loop decreases_loop
 returns c =
-    let l = c.before.loop in
-    let a = c.before.before.args in
-    filled_done 64 (reading_at a.ends.now a.tick) l.r l.rest c.loop-test.false l.invariant.2 ∙ l.invariant.3
+    let l = c.loop-rest in
+    let a = c.args in
+    filled_done 64 (reading_at a.ends.now a.tick) l.r l.rest c.loop-rest-test.false l.invariant.2 ∙ l.invariant.3
 
-pub readings-at-spec : {M : Type 1} → statement M
-readings-at-spec =
+pub readings_at_spec : {M : Type 1} → statement M
+readings_at_spec =
     tie.close
     (tie.spec invariant_loop decreases_loop loop-holds lowest-requires mul-r element-copy-out-r sub-r cast-r mul-r-2 array-write-r
     without-lowest-requires loop-less loop-again returns)

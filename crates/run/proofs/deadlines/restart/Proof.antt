@@ -16,48 +16,48 @@ use Rattle.run.proofs.deadlines.restart.Tie as tie
 abbrev deadline : List ℕ → ℕ → ℕ → ℕ
 deadline delays tick t = tick + get_or delays t 0
 
-abbrev invariant_loop : tie.invariant-loop
+abbrev invariant_loop : tie.invariant-loop-rest
 invariant_loop delays ends₀ set tick rest₀ ends rest = (rest < 2 ^ 64) × (length ends ≡ 64) × (filled 64 (deadline delays tick) ends rest ≡ filled 64 (deadline delays tick) ends₀ set)
 
-abbrev decreases_loop : tie.decreases-loop
+abbrev decreases_loop : tie.decreases-loop-rest
 decreases_loop delays ends₀ set tick rest₀ ends rest = rest
 
-loop-holds : tie.Need-loop-init invariant_loop decreases_loop
+loop-holds : tie.Need-loop-rest-init invariant_loop decreases_loop
 loop-holds c = (c.ranges.set.fits, c.requires.0, refl)
 
-known : (c : tie.After-lowest invariant_loop decreases_loop) {r : ℕ} → r ≡ minus c.before.before.loop.rest (single (lowest 64 c.before.before.loop.rest))
-    → Turn 64 c.before.before.loop.rest c.lowest.result r
-known c e = turn 64 c.before.before.loop.rest c.before.before.loop.invariant.0 c.before.loop-test.true c.lowest.ensures e
+known : (c : tie.After-lowest-t invariant_loop decreases_loop) {r : ℕ} → r ≡ minus c.loop-rest.rest (single (lowest 64 c.loop-rest.rest))
+    → Turn 64 c.loop-rest.rest c.lowest-t.result r
+known c e = turn 64 c.loop-rest.rest c.loop-rest.invariant.0 c.loop-rest-test.true c.lowest-t.ensures e
 
-lowest-requires : tie.Need-lowest-requires invariant_loop decreases_loop
+lowest-requires : tie.Need-lowest-t-requires invariant_loop decreases_loop
 lowest-requires c κs = search rules
 
-mul-ends : tie.Need-overflow-mul-ends invariant_loop decreases_loop
+mul-ends : tie.Need-offset_bounds-delays-t invariant_loop decreases_loop
 mul-ends c = omega (arith, (known c refl).lowest.small)
 
-element-copy-out-ends : tie.Need-element-copy-out-ends invariant_loop decreases_loop
-element-copy-out-ends c = omega (arith, (known c refl).lowest.small)
+element-copy-out-ends : tie.Need-bounds-delays-t invariant_loop decreases_loop
+element-copy-out-ends c = omega (arith, (known c.before refl).lowest.small)
 
-add-ends : tie.Need-overflow-add-ends invariant_loop decreases_loop
-add-ends c = omega (arith, c.before.before.before.before.requires.2 c.before.lowest.result (known c.before refl).lowest.small)
+add-ends : tie.Need-overflow_add-ends invariant_loop decreases_loop
+add-ends c = omega (arith, c.requires.2 c.lowest-t.result (known c.before.before refl).lowest.small)
 
-mul-ends-2 : tie.Need-overflow-mul-ends-2 invariant_loop decreases_loop
-mul-ends-2 c = omega (arith, (known c.before refl).lowest.small)
+mul-ends-2 : tie.Need-offset_bounds-ends-t invariant_loop decreases_loop
+mul-ends-2 c = omega (arith, (known c.before.before refl).lowest.small)
 
-element-write-ends : tie.Need-element-write-ends invariant_loop decreases_loop
-element-write-ends c = omega (arith, (known c.before refl).lowest.small)
+element-write-ends : tie.Need-bounds-ends-t invariant_loop decreases_loop
+element-write-ends c = omega (arith, (known c.before.before.before refl).lowest.small)
 
-without-lowest-requires : tie.Need-without-lowest-requires invariant_loop decreases_loop
-without-lowest-requires c κs = (known c.before refl).filled
+without-lowest-requires : tie.Need-without_lowest-rest-requires invariant_loop decreases_loop
+without-lowest-requires c κs = (known c.before.before.before refl).filled
 
-loop-less : tie.Need-loop-smaller invariant_loop decreases_loop
-loop-less c = (known c.before.before c.without-lowest.ensures).less
+loop-less : tie.Need-loop-rest-smaller invariant_loop decreases_loop
+loop-less c = (known c.before.before.before.before c.without_lowest-rest.ensures).less
 
-loop-again : tie.Need-loop-preserved invariant_loop decreases_loop
+loop-again : tie.Need-loop-rest-preserved invariant_loop decreases_loop
 loop-again c =
-    let u = known c.before.before c.without-lowest.ensures in
-    let l = c.before.before.before.before.loop in
-    let a = c.before.before.before.before.before.args in (
+    let u = known c.before.before.before.before c.without_lowest-rest.ensures in
+    let l = c.loop-rest in
+    let a = c.args in (
       u.fits,
       simp length-set l.invariant.1,
       filled_turn 64 (deadline a.delays.now a.tick) l.ends u l.invariant.1 ∙ l.invariant.2,
@@ -65,12 +65,12 @@ loop-again c =
 
 returns : tie.Need-returns invariant_loop decreases_loop
 returns c =
-    let l = c.before.loop in
-    let a = c.before.before.args in
-    filled_done 64 (deadline a.delays.now a.tick) l.ends l.rest c.loop-test.false l.invariant.1 ∙ l.invariant.2
+    let l = c.loop-rest in
+    let a = c.args in
+    filled_done 64 (deadline a.delays.now a.tick) l.ends l.rest c.loop-rest-test.false l.invariant.1 ∙ l.invariant.2
 
-pub restart-spec : {M : Type 1} → statement M
-restart-spec =
+pub restart_spec : {M : Type 1} → statement M
+restart_spec =
     tie.close
     (tie.spec invariant_loop decreases_loop loop-holds lowest-requires mul-ends element-copy-out-ends add-ends mul-ends-2
     element-write-ends without-lowest-requires loop-less loop-again returns)

@@ -3,11 +3,11 @@ use borrow.Author.Tests.{le-leb, lt-leb}
 use Rattle.run.proofs.state.running_ok.Statement.{statement}
 use Rattle.run.proofs.state.running_ok.Tie as tie
 
-returns : tie.Need-returns
-returns c = (rw (le-leb 1 c.before.args.r c.if1.true), c.before.ranges.r.fits)
+returns : tie.Need-returns-then-r-ge1
+returns c = (rw (le-leb 1 c.args.r c.if-r-ge1.true), c.ranges.r.fits)
 
-returns-2 : tie.Need-returns-2
-returns-2 c = (rw (lt-leb 1 c.before.args.r c.if1.false), c.before.ranges.r.fits)
+returns-2 : tie.Need-returns-else-r-ge1
+returns-2 c = (rw (lt-leb 1 c.args.r c.if-r-ge1.false), c.ranges.r.fits)
 
-pub running-ok-spec : {M : Type 1} → statement M
-running-ok-spec = tie.close (tie.spec returns returns-2)
+pub running_ok_spec : {M : Type 1} → statement M
+running_ok_spec = tie.close (tie.spec returns returns-2)
