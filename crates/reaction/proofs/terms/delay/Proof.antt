@@ -5,12 +5,12 @@ use Rattle.sheet.proofs.Past.{first_read}
 use Rattle.reaction.proofs.terms.delay.Statement.{statement}
 use Rattle.reaction.proofs.terms.delay.Tie as tie
 
-term-value-requires : tie.Need-term-value-requires
-term-value-requires c κs = first_read c.before.args.sheet.now c.before.requires.0 c.before.args.t c.before.requires.1
+term-value-requires : tie.Need-term_value-requires
+term-value-requires c κs = first_read c.args.sheet.now c.requires.0 c.args.t c.requires.1
 
 returns : tie.Need-returns
 unfolding delay
-returns c = c.term-value.ensures
+returns c = c.term_value.ensures
 
-pub delay-spec : {M : Type 1} → statement M
-delay-spec = tie.close (tie.spec term-value-requires returns)
+pub delay_spec : {M : Type 1} → statement M
+delay_spec = tie.close (tie.spec term-value-requires returns)

@@ -7,29 +7,29 @@ use Rattle.reaction.specs.Facts.{holds_by}
 use Rattle.reaction.proofs.terms.holds.Statement.{statement}
 use Rattle.reaction.proofs.terms.holds.Tie as tie
 
-element-copy-out-result : tie.Need-element-copy-out-result
+element-copy-out-result : tie.Need-bounds-f-3
 element-copy-out-result c = search rules
 
-returns : tie.Need-returns
+returns : tie.Need-returns-then-kind-eq3
 unfolding holds_by
-returns c = rw (eq-eqb _ _ c.before.if1.true)
+returns c = rw (eq-eqb _ _ c.if-kind-eq3.true)
 
-mul-result : tie.Need-overflow-mul-result
+mul-result : tie.Need-offset_bounds-f-kind
 mul-result c = search rules
 
-element-copy-out-result-2 : tie.Need-element-copy-out-result-2
+element-copy-out-result-2 : tie.Need-bounds-f-kind
 element-copy-out-result-2 c = search rules
 
-shr-result : tie.Need-overflow-shr-result
-shr-result c = c.before.before.requires.1 c.before.if1.false
+shr-result : tie.Need-overflow_shr-result
+shr-result c = c.requires.1 c.if-kind-eq3.false
 
-returns-2 : tie.Need-returns-2
+returns-2 : tie.Need-returns
 unfolding holds_by
 returns-2 c =
-    let a = c.before.before.args in
-    rw (ne_eqb _ _ c.before.if1.false) (shift_test (get_or a.f.now a.kind 0) a.v)
+    let a = c.args in
+    rw (ne_eqb _ _ c.if-kind-eq3.false) (shift_test (get_or a.f.now a.kind 0) a.v)
 
-pub holds-spec : {M : Type 1} → statement M
-holds-spec =
+pub holds_spec : {M : Type 1} → statement M
+holds_spec =
     tie.close
     (tie.spec element-copy-out-result returns mul-result element-copy-out-result-2 shr-result returns-2)

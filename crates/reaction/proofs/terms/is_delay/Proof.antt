@@ -7,12 +7,12 @@ use Rattle.sheet.proofs.Past.{first_read}
 use Rattle.reaction.proofs.terms.is_delay.Statement.{statement}
 use Rattle.reaction.proofs.terms.is_delay.Tie as tie
 
-term-kind-requires : tie.Need-term-kind-requires
-term-kind-requires c κs = first_read c.before.args.sheet.now c.before.requires.0 c.before.args.t c.before.requires.1
+term-kind-requires : tie.Need-term_kind-requires
+term-kind-requires c κs = first_read c.args.sheet.now c.requires.0 c.args.t c.requires.1
 
 returns : tie.Need-returns
 unfolding is_delay
-returns c = ap (λ (x : ℕ). eqb x 0) c.term-kind.ensures
+returns c = ap (λ (x : ℕ). eqb x 0) c.term_kind.ensures
 
-pub is-delay-spec : {M : Type 1} → statement M
-is-delay-spec = tie.close (tie.spec term-kind-requires returns)
+pub is_delay_spec : {M : Type 1} → statement M
+is_delay_spec = tie.close (tie.spec term-kind-requires returns)

@@ -15,7 +15,7 @@ use Rattle.reaction.proofs.terms.is_judged.Statement.{statement}
 use Rattle.reaction.proofs.terms.is_judged.Tie as tie
 
 source-requires : tie.Need-source-requires
-source-requires c κs = record_read c.before.args.sheet.now c.before.requires.0 c.before.args.t c.before.requires.1
+source-requires c κs = record_read c.args.sheet.now c.requires.0 c.args.t c.requires.1
 
 has-requires : tie.Need-has-requires
 has-requires c κs =
@@ -28,25 +28,25 @@ alternative-requires c κs = search rules
 
 -- the source is in the mode set, as it was tested
 on : (c : tie.After-has) → let b = c.before.before.before in c.has.result ≡ has b.args.modes (source b.args.sheet.now b.args.t)
-on c = c.has.ensures ∙ ap (has c.before.before.before.args.modes) c.before.source.ensures
+on c = c.has.ensures ∙ ap (has c.args.modes) c.source.ensures
 
 filled : (n : ℕ) → not (eqb n 0) ≡ ltb 0 n
 filled zero = refl
 filled (suc n) = ap not (ne_eqb (suc n) 0 (λ e. omega (arith, e))) ∙ sym (lt-ltb 0 (suc n) (omega arith))
 
-returns : tie.Need-returns
+returns : tie.Need-returns-then-has
 returns c =
     let b = c.before.before.before.before.before in
     filled c.alternative.result
     ∙ ap (ltb 0) c.alternative.ensures
-    ∙ ap (λ (o : Bool). o && ltb 0 (alternative_by b.args.sheet.now b.args.f.now b.args.t)) (sym c.before.if1.true ∙ on c.before.before)
+    ∙ ap (λ (o : Bool). o && ltb 0 (alternative_by b.args.sheet.now b.args.f.now b.args.t)) (sym c.if-has.true ∙ on c.before.before)
 
-returns-2 : tie.Need-returns-2
+returns-2 : tie.Need-returns-else-has
 returns-2 c =
     let b = c.before.before.before.before in
-    c.if1.false
-    ∙ ap (λ (o : Bool). o && ltb 0 (alternative_by b.args.sheet.now b.args.f.now b.args.t)) (sym c.if1.false ∙ on c.before)
+    c.if-has.false
+    ∙ ap (λ (o : Bool). o && ltb 0 (alternative_by b.args.sheet.now b.args.f.now b.args.t)) (sym c.if-has.false ∙ on c.before)
 
-pub is-judged-spec : {M : Type 1} → statement M
-is-judged-spec =
+pub is_judged_spec : {M : Type 1} → statement M
+is_judged_spec =
     tie.close (tie.spec source-requires has-requires alternative-requires returns returns-2)

@@ -6,19 +6,19 @@ use Rattle.meaning.specs.Reaction.{is_timer}
 use Rattle.reaction.proofs.terms.is_timer.Statement.{statement}
 use Rattle.reaction.proofs.terms.is_timer.Tie as tie
 
-is-delay-requires : tie.Need-is-delay-requires
+is-delay-requires : tie.Need-is_delay-requires
 is-delay-requires c κs = search rules
 
 delay-requires : tie.Need-delay-requires
 delay-requires c κs = search rules
 
-returns : tie.Need-returns
+returns : tie.Need-returns-then-is_delay
 unfolding is_timer
-returns c = rw (← c.before.before.is-delay.ensures, c.before.if1.true) (ap (ltb 0) c.delay.ensures)
+returns c = rw (← c.is_delay.ensures, c.if-is_delay.true) (ap (ltb 0) c.delay.ensures)
 
-returns-2 : tie.Need-returns-2
+returns-2 : tie.Need-returns-else-is_delay
 unfolding is_timer
-returns-2 c = rw (← c.before.is-delay.ensures, c.if1.false)
+returns-2 c = rw (← c.is_delay.ensures, c.if-is_delay.false)
 
-pub is-timer-spec : {M : Type 1} → statement M
-is-timer-spec = tie.close (tie.spec is-delay-requires delay-requires returns returns-2)
+pub is_timer_spec : {M : Type 1} → statement M
+is_timer_spec = tie.close (tie.spec is-delay-requires delay-requires returns returns-2)

@@ -20,65 +20,65 @@ use Rattle.reaction.proofs.terms.judged.Tie as tie
 abbrev judge : List ℕ → ℕ → List ℕ → ℕ → Bool
 judge sheet modes f t = has modes (source sheet t) && ltb 0 (alternative_by sheet f t)
 
-abbrev invariant_loop : tie.invariant-loop
+abbrev invariant_loop : tie.invariant-loop-rest
 invariant_loop sheet modes set f r₀ rest₀ r rest = (rest < 2 ^ 64) × Subset rest set × (r ≡ minus (those 64 set (judge sheet modes f)) rest)
 
-abbrev decreases_loop : tie.decreases-loop
+abbrev decreases_loop : tie.decreases-loop-rest
 decreases_loop sheet modes set f r₀ rest₀ r rest = rest
 
-loop-holds : tie.Need-loop-init invariant_loop decreases_loop
+loop-holds : tie.Need-loop-rest-init invariant_loop decreases_loop
 loop-holds c =
-    let a = c.before.args in
-    (c.before.ranges.set.fits, λ i h. h, sym (those_start 64 a.set (judge a.sheet.now a.modes a.f.now)))
+    let a = c.args in
+    (c.ranges.set.fits, λ i h. h, sym (those_start 64 a.set (judge a.sheet.now a.modes a.f.now)))
 
-known : (c : tie.After-lowest invariant_loop decreases_loop) {r : ℕ} → r ≡ minus c.before.before.loop.rest (single (lowest 64 c.before.before.loop.rest))
-    → Turn 64 c.before.before.loop.rest c.lowest.result r
-known c e = turn 64 c.before.before.loop.rest c.before.before.loop.invariant.0 c.before.loop-test.true c.lowest.ensures e
+known : (c : tie.After-lowest-t invariant_loop decreases_loop) {r : ℕ} → r ≡ minus c.loop-rest.rest (single (lowest 64 c.loop-rest.rest))
+    → Turn 64 c.loop-rest.rest c.lowest-t.result r
+known c e = turn 64 c.loop-rest.rest c.loop-rest.invariant.0 c.loop-rest-test.true c.lowest-t.ensures e
 
-lowest-requires : tie.Need-lowest-requires invariant_loop decreases_loop
+lowest-requires : tie.Need-lowest-t-requires invariant_loop decreases_loop
 lowest-requires c κs = search rules
 
-is-judged-requires : tie.Need-is-judged-requires invariant_loop decreases_loop
+is-judged-requires : tie.Need-is_judged-requires invariant_loop decreases_loop
 is-judged-requires c κs =
     let start = c.before.before.before.before in
-    let l = c.before.before.loop in
+    let l = c.loop-rest in
     let u = known c refl in
-    let t = c.lowest.result in
+    let t = c.lowest-t.result in
     let k = start.requires.1 t (is_true (has start.args.set t) (l.invariant.1 t (of_true u.lowest.member))) in
     (start.requires.0, k.0, k.1)
 
-single-requires : tie.Need-single-requires invariant_loop decreases_loop
+single-requires : tie.Need-single-r-requires invariant_loop decreases_loop
 single-requires c κs = (known c.before.before refl).lowest.small
 
-without-lowest-requires : tie.Need-without-lowest-requires invariant_loop decreases_loop
+without-lowest-requires : tie.Need-without_lowest-rest-requires invariant_loop decreases_loop
 without-lowest-requires c κs = (known c.before.before refl).filled
 
-loop-less : tie.Need-loop-smaller invariant_loop decreases_loop
-loop-less c = (known c.before.before.before c.without-lowest.ensures).less
+loop-less : tie.Need-loop-rest-smaller invariant_loop decreases_loop
+loop-less c = (known c.before.before.before c.without_lowest-rest.ensures).less
 
-loop-again : tie.Need-loop-preserved invariant_loop decreases_loop
+loop-again : tie.Need-loop-rest-preserved invariant_loop decreases_loop
 loop-again c =
-    let u = known c.before.before.before c.without-lowest.ensures in
-    let l = c.before.before.before.before.before.loop in
-    let a = c.before.before.before.before.before.before.before.args in
+    let u = known c.before.before.before c.without_lowest-rest.ensures in
+    let l = c.loop-rest in
+    let a = c.args in
     let p = judge a.sheet.now a.modes a.f.now in
-    let e = c.before.before.is-judged.ensures in (
+    let e = c.is_judged.ensures in (
       u.fits,
       subset_turn a.set u l.invariant.1,
       ⊎_elim
-          (λ w. those_added a.set p u l.invariant.1 l.invariant.2 w.1.ensures refl (sym e ∙ w.0.taken) w.2)
-          (λ w. those_passed a.set p u l.invariant.2 refl (sym e ∙ w.0.left) w.1)
-          c.before.if1.branch,
+          (λ w. those_added a.set p u l.invariant.1 l.invariant.2 w.single-r.ensures refl (sym e ∙ w.if-is_judged.true) w.r-is)
+          (λ w. those_passed a.set p u l.invariant.2 refl (sym e ∙ w.if-is_judged.false) w.r-is)
+          c.if-is_judged.branch-raw,
     )
 
 returns : tie.Need-returns invariant_loop decreases_loop
 returns c =
-    let l = c.before.loop in
-    let a = c.before.before.before.args in
-    l.invariant.2 ∙ those_done 64 a.set l.rest (judge a.sheet.now a.modes a.f.now) c.loop-test.false
+    let l = c.loop-rest in
+    let a = c.args in
+    l.invariant.2 ∙ those_done 64 a.set l.rest (judge a.sheet.now a.modes a.f.now) c.loop-rest-test.false
 
-pub judged-spec : {M : Type 1} → statement M
-judged-spec =
+pub judged_spec : {M : Type 1} → statement M
+judged_spec =
     tie.close
     (tie.spec invariant_loop decreases_loop loop-holds lowest-requires is-judged-requires single-requires without-lowest-requires
     loop-less loop-again returns)

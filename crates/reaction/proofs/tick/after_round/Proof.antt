@@ -14,10 +14,10 @@ after_words : (z : Sets) (ends es : ℕ) {out in' stay : ℕ} → out ≡ ends %
     ≡ after_ends z ends es
 after_words z ends es p q r = cc
 
-low-requires : tie.Need-low-requires
+low-requires : tie.Need-low-exits-requires
 low-requires c κs = search rules
 
-high-requires : tie.Need-high-requires
+high-requires : tie.Need-high-enters-requires
 high-requires c κs = search rules
 
 minus-requires : tie.Need-minus-requires
@@ -26,8 +26,8 @@ minus-requires c κs = search rules
 returns : tie.Need-returns
 returns c =
     let k = c.before.before.before.before in
-    let a = k.before.before.before.args in
-    after_words a.z a.ends a.es k.before.before.low.ensures k.before.high.ensures k.minus.ensures
+    let a = k.args in
+    after_words a.z a.ends a.es k.low-exits.ensures k.high-enters.ensures k.minus.ensures
 
-pub after-round-spec : {M : Type 1} → statement M
-after-round-spec = tie.close (tie.spec low-requires high-requires minus-requires returns)
+pub after_round_spec : {M : Type 1} → statement M
+after_round_spec = tie.close (tie.spec low-requires high-requires minus-requires returns)

@@ -15,7 +15,7 @@ minus-requires c κs = search rules
 returns : tie.Need-returns
 returns c =
     let b = c.before.before.before in
-    c.minus.ensures ∙ ap (minus b.args.ts) c.before.yielding.ensures ∙ eligible_words b.args.sheet.now b.args.ts b.requires.1
+    c.minus.ensures ∙ ap (minus b.args.ts) c.yielding.ensures ∙ eligible_words b.args.sheet.now b.args.ts b.requires.1
 
-pub eligible-spec : {M : Type 1} → statement M
-eligible-spec = tie.close (tie.spec yielding-requires minus-requires returns)
+pub eligible_spec : {M : Type 1} → statement M
+eligible_spec = tie.close (tie.spec yielding-requires minus-requires returns)

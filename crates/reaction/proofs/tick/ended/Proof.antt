@@ -16,7 +16,7 @@ join-requires : tie.Need-join-requires
 join-requires c κs = search rules
 
 returns : tie.Need-returns
-returns c = joined c.before.args.refusal c.before.args.z c.before.args.rounds c.join.ensures
+returns c = joined c.args.refusal c.args.z c.args.rounds c.join.ensures
 
-pub ended-spec : {M : Type 1} → statement M
-ended-spec = tie.close (tie.spec join-requires returns)
+pub ended_spec : {M : Type 1} → statement M
+ended_spec = tie.close (tie.spec join-requires returns)

@@ -11,7 +11,7 @@ use Rattle.reaction.proofs.tick.first_triggered.Statement.{statement}
 use Rattle.reaction.proofs.tick.first_triggered.Tie as tie
 
 hits-requires : tie.Need-hits-requires
-hits-requires c κs = (c.before.requires.0, c.before.requires.2)
+hits-requires c κs = (c.requires.0, c.requires.2)
 
 triggered-requires : tie.Need-triggered-requires
 triggered-requires c κs =
@@ -24,5 +24,5 @@ returns c =
     let b = h.before.before in
     c.triggered.ensures ∙ first_words b.args.sheet.now b.requires.0.passes b.requires.1 b.requires.2 h.hits.ensures
 
-pub first-triggered-spec : {M : Type 1} → statement M
-first-triggered-spec = tie.close (tie.spec hits-requires triggered-requires returns)
+pub first_triggered_spec : {M : Type 1} → statement M
+first_triggered_spec = tie.close (tie.spec hits-requires triggered-requires returns)

@@ -15,13 +15,13 @@ five : (begun : ℕ) (o : Ticked) {a b l h : ℕ} → a ≡ o.changed % 2 ^ 32 �
 unfolding five_words
 five begun o p q r s = cc
 
-low-requires : tie.Need-low-requires
+low-requires : tie.Need-low-entered-requires
 low-requires c κs = search rules
 
 high-requires : tie.Need-high-requires
 high-requires c κs = search rules
 
-low-requires-2 : tie.Need-low-requires-2
+low-requires-2 : tie.Need-low-requires
 low-requires-2 c κs = search rules
 
 high-requires-2 : tie.Need-high-requires-2
@@ -30,8 +30,8 @@ high-requires-2 c κs = search rules
 returns : tie.Need-returns
 returns c =
     let k = c.before.before.before in
-    five k.before.args.begun k.before.args.o k.low.ensures c.before.before.high.ensures c.before.low2.ensures c.high2.ensures
+    five k.args.begun k.args.o k.low-entered.ensures c.high.ensures c.low.ensures c.high-2.ensures
 
-pub five-words-spec : {M : Type 1} → statement M
-five-words-spec =
+pub five_words_spec : {M : Type 1} → statement M
+five_words_spec =
     tie.close (tie.spec low-requires high-requires low-requires-2 high-requires-2 returns)

@@ -10,49 +10,49 @@ use Rattle.reaction.proofs.RoundLaws.{no_moves, moves_all}
 use Rattle.reaction.proofs.tick.moves_of.Statement.{statement}
 use Rattle.reaction.proofs.tick.moves_of.Tie as tie
 
-abbrev invariant_loop : tie.invariant-loop
+abbrev invariant_loop : tie.invariant-loop-rest
 invariant_loop sheet plan es r₀ rest₀ r rest =
     (rest < 2 ^ 64) × (fold (add_move plan) r (members 64 rest) ≡ fold (add_move plan) no_moves (members 64 es))
 
-abbrev decreases_loop : tie.decreases-loop
+abbrev decreases_loop : tie.decreases-loop-rest
 decreases_loop sheet plan es r₀ rest₀ r rest = rest
 
-loop-holds : tie.Need-loop-init invariant_loop decreases_loop
-loop-holds c = (c.before.ranges.es.fits, refl)
+loop-holds : tie.Need-loop-rest-init invariant_loop decreases_loop
+loop-holds c = (c.ranges.es.fits, refl)
 
-known : (c : tie.After-lowest invariant_loop decreases_loop) {r : ℕ} → r ≡ minus c.before.before.loop.rest (single (lowest 64 c.before.before.loop.rest))
-    → Turn 64 c.before.before.loop.rest c.lowest.result r
-known c e = turn 64 c.before.before.loop.rest c.before.before.loop.invariant.0 c.before.loop-test.true c.lowest.ensures e
+known : (c : tie.After-lowest invariant_loop decreases_loop) {r : ℕ} → r ≡ minus c.loop-rest.rest (single (lowest 64 c.loop-rest.rest))
+    → Turn 64 c.loop-rest.rest c.lowest.result r
+known c e = turn 64 c.loop-rest.rest c.loop-rest.invariant.0 c.loop-rest-test.true c.lowest.ensures e
 
 lowest-requires : tie.Need-lowest-requires invariant_loop decreases_loop
 lowest-requires c κs = search rules
 
-with-move-requires : tie.Need-with-move-requires invariant_loop decreases_loop
+with-move-requires : tie.Need-with_move-r-requires invariant_loop decreases_loop
 with-move-requires c κs = (known c refl).lowest.small
 
-without-lowest-requires : tie.Need-without-lowest-requires invariant_loop decreases_loop
+without-lowest-requires : tie.Need-without_lowest-rest-requires invariant_loop decreases_loop
 without-lowest-requires c κs = (known c.before refl).filled
 
-loop-less : tie.Need-loop-smaller invariant_loop decreases_loop
-loop-less c = (known c.before.before c.without-lowest.ensures).less
+loop-less : tie.Need-loop-rest-smaller invariant_loop decreases_loop
+loop-less c = (known c.before.before c.without_lowest-rest.ensures).less
 
-loop-again : tie.Need-loop-preserved invariant_loop decreases_loop
+loop-again : tie.Need-loop-rest-preserved invariant_loop decreases_loop
 loop-again c =
-    let u = known c.before.before c.without-lowest.ensures in
-    let l = c.before.before.before.before.loop in
-    let f = add_move c.before.before.before.before.before.before.args.plan.now in
-    (u.fits, ap (λ (m : Moves). fold f m (members 64 c.without-lowest.result)) c.before.with-move.ensures ∙ fold_turn f l.r u ∙ l.invariant.1)
+    let u = known c.before.before c.without_lowest-rest.ensures in
+    let l = c.loop-rest in
+    let f = add_move c.args.plan.now in
+    (u.fits, ap (λ (m : Moves). fold f m (members 64 c.without_lowest-rest.result)) c.with_move-r.ensures ∙ fold_turn f l.r u ∙ l.invariant.1)
 
 returns : tie.Need-returns invariant_loop decreases_loop
 returns c =
-    let l = c.before.loop in
+    let l = c.loop-rest in
     let b = c.before.before.before in
     let a = b.args in
-    subst (MovesOf a.sheet.now a.es) (sym (sym (fold_done (add_move a.plan.now) l.r 64 l.rest c.loop-test.false) ∙ l.invariant.1))
+    subst (MovesOf a.sheet.now a.es) (sym (sym (fold_done (add_move a.plan.now) l.r 64 l.rest c.loop-rest-test.false) ∙ l.invariant.1))
     (moves_all a.sheet.now a.plan.now b.requires.0 a.es b.ranges.es.fits b.requires.1)
 
-pub moves-of-spec : {M : Type 1} → statement M
-moves-of-spec =
+pub moves_of_spec : {M : Type 1} → statement M
+moves_of_spec =
     tie.close
     (tie.spec invariant_loop decreases_loop loop-holds lowest-requires with-move-requires without-lowest-requires loop-less
     loop-again returns)

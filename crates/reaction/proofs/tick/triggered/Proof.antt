@@ -17,18 +17,18 @@ use Rattle.reaction.proofs.TermLaws.{alternative_by_lem}
 use Rattle.reaction.proofs.tick.triggered.Statement.{statement}
 use Rattle.reaction.proofs.tick.triggered.Tie as tie
 
-returns : tie.Need-returns
+returns : tie.Need-returns-then-unsure-eq0
 returns c =
-    let a = c.before.before.args in
-    sym (ap (union a.sure) (those_none 64 a.unsure _ c.if1.true) ∙ or_zero_r a.sure)
+    let a = c.args in
+    sym (ap (union a.sure) (those_none 64 a.unsure _ c.if-unsure-eq0.true) ∙ or_zero_r a.sure)
 
-facts-requires : tie.Need-facts-requires
+facts-requires : tie.Need-facts-f-requires
 facts-requires c κs = search rules
 
 judged-requires : tie.Need-judged-requires
 judged-requires c κs = search rules
 
-returns-2 : tie.Need-returns-2
+returns-2 : tie.Need-returns
 returns-2 c =
     let b = c.before.before.before.before.before.before in
     let a = b.args in
@@ -36,9 +36,9 @@ returns-2 c =
     let z = sets_of a.begun a.z in
     ap (union a.sure)
     (c.judged.ensures
-    ∙ ap (λ (f : List ℕ). those 64 a.unsure (λ t. has a.z.modes (source s t) && ltb 0 (alternative_by s f t))) c.before.before.facts.ensures
+    ∙ ap (λ (f : List ℕ). those 64 a.unsure (λ t. has a.z.modes (source s t) && ltb 0 (alternative_by s f t))) c.facts-f.ensures
     ∙ those_same 64 a.unsure _ (λ t. has a.z.modes (source s t) && ltb 0 (alternative s a.input z t)) (λ t l m.
     ap (λ (n : ℕ). has a.z.modes (source s t) && ltb 0 n) (alternative_by_lem s a.input z b.ranges.input.fits t b.requires.0 (b.requires.1 t m).0)))
 
-pub triggered-spec : {M : Type 1} → statement M
-triggered-spec = tie.close (tie.spec returns facts-requires judged-requires returns-2)
+pub triggered_spec : {M : Type 1} → statement M
+triggered_spec = tie.close (tie.spec returns facts-requires judged-requires returns-2)

@@ -13,54 +13,54 @@ use Rattle.reaction.proofs.RoundLaws.{yielders_small}
 use Rattle.reaction.proofs.tick.yielding.Statement.{statement}
 use Rattle.reaction.proofs.tick.yielding.Tie as tie
 
-abbrev invariant_loop : tie.invariant-loop
+abbrev invariant_loop : tie.invariant-loop-rest
 invariant_loop sheet plan ts r₀ rest₀ r rest =
     (rest < 2 ^ 64) × (fold (λ x t. union x (get_or plan (yielders_part + t) 0)) r (members 64 rest) ≡ fold (λ x t. union x (get_or plan (yielders_part + t) 0)) 0 (members 64 ts))
 
-abbrev decreases_loop : tie.decreases-loop
+abbrev decreases_loop : tie.decreases-loop-rest
 decreases_loop sheet plan ts r₀ rest₀ r rest = rest
 
-loop-holds : tie.Need-loop-init invariant_loop decreases_loop
-loop-holds c = (c.before.ranges.ts.fits, refl)
+loop-holds : tie.Need-loop-rest-init invariant_loop decreases_loop
+loop-holds c = (c.ranges.ts.fits, refl)
 
-known : (c : tie.After-lowest invariant_loop decreases_loop) {r : ℕ} → r ≡ minus c.before.before.loop.rest (single (lowest 64 c.before.before.loop.rest))
-    → Turn 64 c.before.before.loop.rest c.lowest.result r
-known c e = turn 64 c.before.before.loop.rest c.before.before.loop.invariant.0 c.before.loop-test.true c.lowest.ensures e
+known : (c : tie.After-lowest invariant_loop decreases_loop) {r : ℕ} → r ≡ minus c.loop-rest.rest (single (lowest 64 c.loop-rest.rest))
+    → Turn 64 c.loop-rest.rest c.lowest.result r
+known c e = turn 64 c.loop-rest.rest c.loop-rest.invariant.0 c.loop-rest-test.true c.lowest.ensures e
 
 lowest-requires : tie.Need-lowest-requires invariant_loop decreases_loop
 lowest-requires c κs = search rules
 
-add_r : tie.Need-overflow-add-r invariant_loop decreases_loop
+add_r : tie.Need-overflow_add-r invariant_loop decreases_loop
 add_r c = omega (arith, (known c refl).lowest.small)
 
-mul-r : tie.Need-overflow-mul-r invariant_loop decreases_loop
+mul-r : tie.Need-offset_bounds-plan-lowest invariant_loop decreases_loop
 mul-r c = omega (arith, (known c refl).lowest.small)
 
-element-copy-out-r : tie.Need-element-copy-out-r invariant_loop decreases_loop
-element-copy-out-r c = omega (arith, (known c refl).lowest.small)
+element-copy-out-r : tie.Need-bounds-plan-lowest invariant_loop decreases_loop
+element-copy-out-r c = omega (arith, (known c.before refl).lowest.small)
 
-without-lowest-requires : tie.Need-without-lowest-requires invariant_loop decreases_loop
-without-lowest-requires c κs = (known c.before refl).filled
+without-lowest-requires : tie.Need-without_lowest-rest-requires invariant_loop decreases_loop
+without-lowest-requires c κs = (known c.before.before refl).filled
 
-loop-less : tie.Need-loop-smaller invariant_loop decreases_loop
-loop-less c = (known c.before.before c.without-lowest.ensures).less
+loop-less : tie.Need-loop-rest-smaller invariant_loop decreases_loop
+loop-less c = (known c.before.before.before c.without_lowest-rest.ensures).less
 
-loop-again : tie.Need-loop-preserved invariant_loop decreases_loop
+loop-again : tie.Need-loop-rest-preserved invariant_loop decreases_loop
 loop-again c =
-    let u = known c.before.before c.without-lowest.ensures in
-    (u.fits, fold_turn _ _ u ∙ c.before.before.before.before.loop.invariant.1)
+    let u = known c.before.before.before c.without_lowest-rest.ensures in
+    (u.fits, fold_turn _ _ u ∙ c.loop-rest.invariant.1)
 
 returns : tie.Need-returns invariant_loop decreases_loop
 returns c =
-    let l = c.before.loop in
-    let a = c.before.before.before.args in
+    let l = c.loop-rest in
+    let a = c.args in
     let s = a.sheet.now in
-    sym (fold_done _ l.r 64 l.rest c.loop-test.false) ∙ l.invariant.1
-    ∙ union_over 64 (t_of s) (t_of s) a.ts (λ t. get_or a.plan.now (yielders_part + t) 0) (yielders_of s) c.before.before.before.ranges.ts.fits c.before.before.before.requires.1
-    c.before.before.before.requires.0.yielders_at (yielders_small s)
+    sym (fold_done _ l.r 64 l.rest c.loop-rest-test.false) ∙ l.invariant.1
+    ∙ union_over 64 (t_of s) (t_of s) a.ts (λ t. get_or a.plan.now (yielders_part + t) 0) (yielders_of s) c.ranges.ts.fits c.requires.1
+    c.requires.0.yielders_at (yielders_small s)
 
-pub yielding-spec : {M : Type 1} → statement M
-yielding-spec =
+pub yielding_spec : {M : Type 1} → statement M
+yielding_spec =
     tie.close
     (tie.spec invariant_loop decreases_loop loop-holds lowest-requires add_r mul-r element-copy-out-r without-lowest-requires
     loop-less loop-again returns)

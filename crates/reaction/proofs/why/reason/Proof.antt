@@ -27,22 +27,22 @@ has-requires c κs =
 
 -- the test of the source in the tick's active modes
 on : (c : tie.After-has)
-    → let a = c.before.before.before.before.before.args in
+    → let a = c.args in
     has (tick_of a.b.begun a.o).sets.active (source a.sheet.now a.t) ≡ c.has.result
 on c =
-    let a = c.before.before.before.before.before.args in
-    sym (c.has.ensures ∙ ap₂ (λ (x m : ℕ). has (union a.b.begun x) m) c.before.before.before.low.ensures c.before.source.ensures)
+    let a = c.args in
+    sym (c.has.ensures ∙ ap₂ (λ (x m : ℕ). has (union a.b.begun x) m) c.low.ensures c.source.ensures)
 
-returns : tie.Need-returns
-returns c = let a = c.before.before.before.before.before.before.args in reason_off a.sheet.now (tick_of a.b.begun a.o) _ _ _ a.t (on c.before ∙ not-true _ c.if1.true)
+returns : tie.Need-returns-then-not-has
+returns c = let a = c.args in reason_off a.sheet.now (tick_of a.b.begun a.o) _ _ _ a.t (on c.before ∙ not-true _ c.if-not-has.true-raw)
 
-rounds-report-requires : tie.Need-rounds-report-requires
+rounds-report-requires : tie.Need-rounds_report-requires
 rounds-report-requires c κs = search rules
 
-returns-2 : tie.Need-returns-2
-returns-2 c = let a = c.before.before.before.before.before.before.before.args in reason_on a.sheet.now (tick_of a.b.begun a.o) _ _ _ a.t (on c.before.before ∙ not-false _ c.before.if1.false) c.rounds-report.ensures
+returns-2 : tie.Need-returns
+returns-2 c = let a = c.args in reason_on a.sheet.now (tick_of a.b.begun a.o) _ _ _ a.t (on c.before.before ∙ not-false _ c.if-not-has.false-raw) c.rounds_report.ensures
 
-pub reason-spec : {M : Type 1} → statement M
-reason-spec =
+pub reason_spec : {M : Type 1} → statement M
+reason_spec =
     tie.close
     (tie.spec low-requires source-requires has-requires returns rounds-report-requires returns-2)
