@@ -65,149 +65,149 @@ serial_calls t = (kept-child-reads.Asked, kept-child-reads.Learnt, single-Reads.
 
 -- ---- parallel_below
 
-abbrev invariant_loop : parallel-below-lts.invariant-loop
+abbrev invariant_loop : parallel-below-lts.invariant-loop-rest
 invariant_loop sheet words x m r₀ rest₀ r rest =
     (rest < 2 ^ 32) × Subset rest (children sheet m)
     × (fold (λ y c. union y (completed_below sheet x c)) r (members 32 rest) ≡ completed_below sheet x m)
 
-abbrev decreases_loop : parallel-below-lts.decreases-loop
+abbrev decreases_loop : parallel-below-lts.decreases-loop-rest
 decreases_loop sheet words x m r₀ rest₀ r rest = rest
 
-parallel_below_mul_r : (t : ℕ) → parallel-below-lts.Need-overflow-mul-r (parallel_calls t) (parallel_below_at t) parallel-below.Post invariant_loop decreases_loop
-parallel_below_mul_r t c = let p = c.before.requires.1 in omega (arith, mode_small _ p.0 _ p.1)
+parallel_below_mul_r : (t : ℕ) → parallel-below-lts.Need-offset_bounds-children-m (parallel_calls t) (parallel_below_at t) parallel-below.Post invariant_loop decreases_loop
+parallel_below_mul_r t c = let p = c.requires.1 in omega (arith, mode_small _ p.0 _ p.1)
 
-parallel_below_element_copy_out_r : (t : ℕ) → parallel-below-lts.Need-element-copy-out-r (parallel_calls t) (parallel_below_at t) parallel-below.Post invariant_loop decreases_loop
-parallel_below_element_copy_out_r t c = let p = c.before.requires.1 in mode_small _ p.0 _ p.1
+parallel_below_element_copy_out_r : (t : ℕ) → parallel-below-lts.Need-bounds-children-m (parallel_calls t) (parallel_below_at t) parallel-below.Post invariant_loop decreases_loop
+parallel_below_element_copy_out_r t c = let p = c.requires.1 in mode_small _ p.0 _ p.1
 
-parallel_below_loop_holds : (t : ℕ) → parallel-below-lts.Need-loop-init (parallel_calls t) (parallel_below_at t) parallel-below.Post invariant_loop decreases_loop
+parallel_below_loop_holds : (t : ℕ) → parallel-below-lts.Need-loop-rest-init (parallel_calls t) (parallel_below_at t) parallel-below.Post invariant_loop decreases_loop
 parallel_below_loop_holds t c =
-    let s = c.before.before in
+    let s = c.before.before.before in
     let p = s.requires.1 in
     rw (children_word s.args.sheet.now s.args.children.now s.args.m p.0 p.1 p.2)
     (fits_32 _ p.0 (children-lt _ _), λ i h. h, completed_below_members _ (sound _ p.0) _ _ p.1 p.3)
 
 -- a turn takes out a child of m, for which the measure is lower
-parallel-turn : (t : ℕ) (c : parallel-below-lts.After-lowest (parallel_calls t) (parallel_below_at t) parallel-below.Post invariant_loop decreases_loop) {r : ℕ}
-    → r ≡ minus c.before.before.loop.rest (single (lowest 32 c.before.before.loop.rest)) → Turn 32 c.before.before.loop.rest c.lowest.result r
-parallel-turn t c e = turn 32 c.before.before.loop.rest c.before.before.loop.invariant.0 c.before.loop-test.true c.lowest.ensures e
+parallel-turn : (t : ℕ) (c : parallel-below-lts.After-lowest-c (parallel_calls t) (parallel_below_at t) parallel-below.Post invariant_loop decreases_loop) {r : ℕ}
+    → r ≡ minus c.loop-rest.rest (single (lowest 32 c.loop-rest.rest)) → Turn 32 c.loop-rest.rest c.lowest-c.result r
+parallel-turn t c e = turn 32 c.loop-rest.rest c.loop-rest.invariant.0 c.loop-rest-test.true c.lowest-c.ensures e
 
-parallel_mode : (t : ℕ) (c : parallel-below-lts.After-lowest (parallel_calls t) (parallel_below_at t) parallel-below.Post invariant_loop decreases_loop)
-    → (c.lowest.result < n_of c.before.before.before.before.before.args.sheet.now) × (32 - c.lowest.result < t)
+parallel_mode : (t : ℕ) (c : parallel-below-lts.After-lowest-c (parallel_calls t) (parallel_below_at t) parallel-below.Post invariant_loop decreases_loop)
+    → (c.lowest-c.result < n_of c.args.sheet.now) × (32 - c.lowest-c.result < t)
 parallel_mode t c =
-    let p = c.before.before.before.before.before.requires in
-    let k = children_next _ (sound _ p.1.0) _ _ (c.before.before.loop.invariant.1 _ (of_true (parallel-turn t c refl).lowest.member)) in
+    let p = c.requires in
+    let k = children_next _ (sound _ p.1.0) _ _ (c.loop-rest.invariant.1 _ (of_true (parallel-turn t c refl).lowest.member)) in
     (k.1, omega (arith, p.0, k.0, mode_small _ p.1.0 _ k.1))
 
-parallel_below_lowest_requires : (t : ℕ) → parallel-below-lts.Need-lowest-requires (parallel_calls t) (parallel_below_at t) parallel-below.Post invariant_loop decreases_loop
+parallel_below_lowest_requires : (t : ℕ) → parallel-below-lts.Need-lowest-c-requires (parallel_calls t) (parallel_below_at t) parallel-below.Post invariant_loop decreases_loop
 parallel_below_lowest_requires t c κs = search rules
 
-parallel_below_mul_if1 : (t : ℕ) → parallel-below-lts.Need-overflow-mul-if1 (parallel_calls t) (parallel_below_at t) parallel-below.Post invariant_loop decreases_loop
-parallel_below_mul_if1 t c = omega (arith, mode_small _ c.before.before.before.before.before.requires.1.0 _ (parallel_mode t c).0)
+parallel_below_mul_if1 : (t : ℕ) → parallel-below-lts.Need-offset_bounds-children-c (parallel_calls t) (parallel_below_at t) parallel-below.Post invariant_loop decreases_loop
+parallel_below_mul_if1 t c = omega (arith, mode_small _ c.requires.1.0 _ (parallel_mode t c).0)
 
-parallel_below_element_copy_out_if1 : (t : ℕ) → parallel-below-lts.Need-element-copy-out-if1 (parallel_calls t) (parallel_below_at t) parallel-below.Post invariant_loop decreases_loop
-parallel_below_element_copy_out_if1 t c = mode_small _ c.before.before.before.before.before.requires.1.0 _ (parallel_mode t c).0
+parallel_below_element_copy_out_if1 : (t : ℕ) → parallel-below-lts.Need-bounds-children-c (parallel_calls t) (parallel_below_at t) parallel-below.Post invariant_loop decreases_loop
+parallel_below_element_copy_out_if1 t c = mode_small _ c.requires.1.0 _ (parallel_mode t c.before).0
 
-parallel_below_is_serial_requires : (t : ℕ) → parallel-below-lts.Need-is-serial-requires (parallel_calls t) (parallel_below_at t) parallel-below.Post invariant_loop decreases_loop
-parallel_below_is_serial_requires t c κs = row_read _ c.before.before.before.before.before.before.before.requires.1.0 _ (parallel_mode t c.before.before).0
+parallel_below_is_serial_requires : (t : ℕ) → parallel-below-lts.Need-is_serial-requires (parallel_calls t) (parallel_below_at t) parallel-below.Post invariant_loop decreases_loop
+parallel_below_is_serial_requires t c κs = row_read _ c.requires.1.0 _ (parallel_mode t c.before.before.before).0
 
-parallel_below_serial_below_requires : (t : ℕ) → parallel-below-lts.Need-serial-below-requires (parallel_calls t) (parallel_below_at t) parallel-below.Post invariant_loop decreases_loop
+parallel_below_serial_below_requires : (t : ℕ) → parallel-below-lts.Need-serial_below-r-requires (parallel_calls t) (parallel_below_at t) parallel-below.Post invariant_loop decreases_loop
 parallel_below_serial_below_requires t c κs =
-    let p = c.before.before.before.before.before.before.before.before.before.requires.1 in
-    let k = parallel_mode t c.before.before.before.before in
-    (k.1, (p.0, k.0, p.2, serial_of _ _ c.before.is-serial.ensures c.if2.true))
+    let p = c.requires.1 in
+    let k = parallel_mode t c.before.before.before.before.before in
+    (k.1, (p.0, k.0, p.2, serial_of _ _ c.is_serial.ensures c.if-is_serial.true))
 
-parallel_below_parallel_below_requires : (t : ℕ) → parallel-below-lts.Need-parallel-below-requires (parallel_calls t) (parallel_below_at t) parallel-below.Post invariant_loop decreases_loop
+parallel_below_parallel_below_requires : (t : ℕ) → parallel-below-lts.Need-parallel_below-r-requires (parallel_calls t) (parallel_below_at t) parallel-below.Post invariant_loop decreases_loop
 parallel_below_parallel_below_requires t c κs =
-    let p = c.before.before.before.before.before.before.before.before.before.requires.1 in
-    let k = parallel_mode t c.before.before.before.before in
-    (k.1, (p.0, k.0, p.2, other_of _ _ c.before.is-serial.ensures c.if2.false))
+    let p = c.requires.1 in
+    let k = parallel_mode t c.before.before.before.before.before in
+    (k.1, (p.0, k.0, p.2, other_of _ _ c.is_serial.ensures c.if-is_serial.false))
 
-parallel_below_without_lowest_requires : (t : ℕ) → parallel-below-lts.Need-without-lowest-requires (parallel_calls t) (parallel_below_at t) parallel-below.Post invariant_loop decreases_loop
-parallel_below_without_lowest_requires t c κs = (parallel-turn t c.before.before refl).filled
+parallel_below_without_lowest_requires : (t : ℕ) → parallel-below-lts.Need-without_lowest-rest-requires (parallel_calls t) (parallel_below_at t) parallel-below.Post invariant_loop decreases_loop
+parallel_below_without_lowest_requires t c κs = (parallel-turn t c.before.before.before refl).filled
 
-parallel_below_loop_less : (t : ℕ) → parallel-below-lts.Need-loop-smaller (parallel_calls t) (parallel_below_at t) parallel-below.Post invariant_loop decreases_loop
-parallel_below_loop_less t c = (parallel-turn t c.before.before.before c.without-lowest.ensures).less
+parallel_below_loop_less : (t : ℕ) → parallel-below-lts.Need-loop-rest-smaller (parallel_calls t) (parallel_below_at t) parallel-below.Post invariant_loop decreases_loop
+parallel_below_loop_less t c = (parallel-turn t c.before.before.before.before c.without_lowest-rest.ensures).less
 
-parallel_below_loop_again : (t : ℕ) → parallel-below-lts.Need-loop-preserved (parallel_calls t) (parallel_below_at t) parallel-below.Post invariant_loop decreases_loop
+parallel_below_loop_again : (t : ℕ) → parallel-below-lts.Need-loop-rest-preserved (parallel_calls t) (parallel_below_at t) parallel-below.Post invariant_loop decreases_loop
 parallel_below_loop_again t c =
-    let u = parallel-turn t c.before.before.before c.without-lowest.ensures in
-    let s = c.before.before.before.before.before.before.before.before in
+    let u = parallel-turn t c.before.before.before.before c.without_lowest-rest.ensures in
+    let s = c.before.before.before.before.before.before.before.before.before.before in
     let p = s.requires.1 in
-    let l = c.before.before.before.before.before.loop in
-    let k = (parallel_mode t c.before.before.before).0 in
+    let l = c.loop-rest in
+    let k = (parallel_mode t c.before.before.before.before).0 in
     let go = fold_turn (λ y d. union y (completed_below s.args.sheet.now s.args.x d)) l.r u ∙ l.invariant.2 in (
       u.fits,
       subset_turn (children s.args.sheet.now s.args.m) u l.invariant.1,
-      ⊎_elim (λ w. rw (w.4, w.3.ensures) go)
-          (⊎_elim (λ w. rw (w.4, w.3.ensures) go)
-          (λ w. rw (w.1 ∙ sym (childless_union _ (sound _ p.0) s.args.x _ l.r k (sym (children_word _ _ _ p.0 k p.2) ∙ w.0.left))) go))
-          c.before.if1.branch,
+      ⊎_elim (λ w. rw (w.r-is, w.serial_below-r.ensures) go)
+          (⊎_elim (λ w. rw (w.r-is, w.parallel_below-r.ensures) go)
+          (λ w. rw (w.r-is ∙ sym (childless_union _ (sound _ p.0) s.args.x _ l.r k (sym (children_word _ _ _ p.0 k p.2) ∙ w.if-children-c-ne0.false))) go))
+          c.if-children-c-ne0.branch-raw,
     )
 
 parallel_below_returns : (t : ℕ) → parallel-below-lts.Need-returns (parallel_calls t) (parallel_below_at t) parallel-below.Post invariant_loop decreases_loop
 parallel_below_returns t c =
-    let l = c.before.loop in
-    let s = c.before.before.before.before in
-    sym (fold_done (λ y d. union y (completed_below s.args.sheet.now s.args.x d)) l.r 32 l.rest c.loop-test.false) ∙ l.invariant.2
+    let l = c.loop-rest in
+    let s = c.before.before.before.before.before in
+    sym (fold_done (λ y d. union y (completed_below s.args.sheet.now s.args.x d)) l.r 32 l.rest c.loop-rest-test.false) ∙ l.invariant.2
 
 -- ---- serial_below
 
 -- the mode that it goes on from
-serial_mode : (t : ℕ) (c : serial-below-lts.After-kept-child (serial_calls t) (serial_below_at t) serial-below.Post)
-    → (c.kept-child.result < n_of c.before.before.args.sheet.now) × (32 - c.kept-child.result < t)
+serial_mode : (t : ℕ) (c : serial-below-lts.After-kept_child-c (serial_calls t) (serial_below_at t) serial-below.Post)
+    → (c.kept_child-c.result < n_of c.args.sheet.now) × (32 - c.kept_child-c.result < t)
 serial_mode t c =
-    let p = c.before.before.requires in
-    let k = kept_child_next _ (sound _ p.1.0) _ _ _ p.1.1 p.1.3 c.kept-child.ensures in
+    let p = c.requires in
+    let k = kept_child_next _ (sound _ p.1.0) _ _ _ p.1.1 p.1.3 c.kept_child-c.ensures in
     (k.1, omega (arith, p.0, k.0, mode_small _ p.1.0 _ k.1))
 
-serial_below_kept_child_requires : (t : ℕ) → serial-below-lts.Need-kept-child-requires (serial_calls t) (serial_below_at t) serial-below.Post
-serial_below_kept_child_requires t c κs = let p = c.before.requires.1 in (p.0, p.1, p.2)
+serial_below_kept_child_requires : (t : ℕ) → serial-below-lts.Need-kept_child-c-requires (serial_calls t) (serial_below_at t) serial-below.Post
+serial_below_kept_child_requires t c κs = let p = c.requires.1 in (p.0, p.1, p.2)
 
-serial_below_single_requires : (t : ℕ) → serial-below-lts.Need-single-requires (serial_calls t) (serial_below_at t) serial-below.Post
-serial_below_single_requires t c κs = mode_small _ c.before.before.requires.1.0 _ (serial_mode t c).0
+serial_below_single_requires : (t : ℕ) → serial-below-lts.Need-single-r-requires (serial_calls t) (serial_below_at t) serial-below.Post
+serial_below_single_requires t c κs = mode_small _ c.requires.1.0 _ (serial_mode t c).0
 
-serial_below_mul_if1 : (t : ℕ) → serial-below-lts.Need-overflow-mul-if1 (serial_calls t) (serial_below_at t) serial-below.Post
-serial_below_mul_if1 t c = omega (arith, mode_small _ c.before.before.before.requires.1.0 _ (serial_mode t c.before).0)
+serial_below_mul_if1 : (t : ℕ) → serial-below-lts.Need-offset_bounds-children-c (serial_calls t) (serial_below_at t) serial-below.Post
+serial_below_mul_if1 t c = omega (arith, mode_small _ c.requires.1.0 _ (serial_mode t c.before).0)
 
-serial_below_element_copy_out_if1 : (t : ℕ) → serial-below-lts.Need-element-copy-out-if1 (serial_calls t) (serial_below_at t) serial-below.Post
-serial_below_element_copy_out_if1 t c = mode_small _ c.before.before.before.requires.1.0 _ (serial_mode t c.before).0
+serial_below_element_copy_out_if1 : (t : ℕ) → serial-below-lts.Need-bounds-children-c (serial_calls t) (serial_below_at t) serial-below.Post
+serial_below_element_copy_out_if1 t c = mode_small _ c.requires.1.0 _ (serial_mode t c.before.before).0
 
-serial_below_returns : (t : ℕ) → serial-below-lts.Need-returns (serial_calls t) (serial_below_at t) serial-below.Post
+serial_below_returns : (t : ℕ) → serial-below-lts.Need-returns-then-children-c-eq0 (serial_calls t) (serial_below_at t) serial-below.Post
 serial_below_returns t c =
-    let p = c.before.before.before.before.before.requires.1 in
-    let k = (serial_mode t c.before.before.before).0 in
-    serial_done _ (sound _ p.0) _ _ _ _ p.1 p.3 c.before.before.before.kept-child.ensures
-    (childless_branch _ (sound _ p.0) _ _ _ k (sym (children_word _ _ _ p.0 k p.2) ∙ c.if1.true) c.before.before.single.ensures)
+    let p = c.requires.1 in
+    let k = (serial_mode t c.before.before.before.before).0 in
+    serial_done _ (sound _ p.0) _ _ _ _ p.1 p.3 c.kept_child-c.ensures
+    (childless_branch _ (sound _ p.0) _ _ _ k (sym (children_word _ _ _ p.0 k p.2) ∙ c.if-children-c-eq0.true) c.single-r.ensures)
 
-serial_below_is_serial_requires : (t : ℕ) → serial-below-lts.Need-is-serial-requires (serial_calls t) (serial_below_at t) serial-below.Post
-serial_below_is_serial_requires t c κs = row_read _ c.before.before.before.before.before.requires.1.0 _ (serial_mode t c.before.before.before).0
+serial_below_is_serial_requires : (t : ℕ) → serial-below-lts.Need-is_serial-requires (serial_calls t) (serial_below_at t) serial-below.Post
+serial_below_is_serial_requires t c κs = row_read _ c.requires.1.0 _ (serial_mode t c.before.before.before.before).0
 
-serial_below_serial_below_requires : (t : ℕ) → serial-below-lts.Need-serial-below-requires (serial_calls t) (serial_below_at t) serial-below.Post
+serial_below_serial_below_requires : (t : ℕ) → serial-below-lts.Need-serial_below-requires (serial_calls t) (serial_below_at t) serial-below.Post
 serial_below_serial_below_requires t c κs =
-    let p = c.before.before.before.before.before.before.before.requires.1 in
-    let k = serial_mode t c.before.before.before.before.before in
-    (k.1, (p.0, k.0, p.2, serial_of _ _ c.before.is-serial.ensures c.if2.true))
+    let p = c.requires.1 in
+    let k = serial_mode t c.before.before.before.before.before.before in
+    (k.1, (p.0, k.0, p.2, serial_of _ _ c.is_serial.ensures c.if-is_serial.true))
 
-serial_below_parallel_below_requires : (t : ℕ) → serial-below-lts.Need-parallel-below-requires (serial_calls t) (serial_below_at t) serial-below.Post
+serial_below_parallel_below_requires : (t : ℕ) → serial-below-lts.Need-parallel_below-requires (serial_calls t) (serial_below_at t) serial-below.Post
 serial_below_parallel_below_requires t c κs =
-    let p = c.before.before.before.before.before.before.before.requires.1 in
-    let k = serial_mode t c.before.before.before.before.before in
-    (k.1, (p.0, k.0, p.2, other_of _ _ c.before.is-serial.ensures c.if2.false))
+    let p = c.requires.1 in
+    let k = serial_mode t c.before.before.before.before.before.before in
+    (k.1, (p.0, k.0, p.2, other_of _ _ c.is_serial.ensures c.if-is_serial.false))
 
-serial_below_returns_2 : (t : ℕ) → serial-below-lts.Need-returns-2 (serial_calls t) (serial_below_at t) serial-below.Post
+serial_below_returns_2 : (t : ℕ) → serial-below-lts.Need-returns-then-is_serial (serial_calls t) (serial_below_at t) serial-below.Post
 serial_below_returns_2 t c =
-    let p = c.before.before.before.before.before.before.before.before.requires.1 in
-    serial_done _ (sound _ p.0) _ _ _ _ p.1 p.3 c.before.before.before.before.before.before.kept-child.ensures
-    (branch_of _ (sound _ p.0) _ _ _ _ c.before.before.before.before.before.single.ensures c.serial-below.ensures)
+    let p = c.requires.1 in
+    serial_done _ (sound _ p.0) _ _ _ _ p.1 p.3 c.kept_child-c.ensures
+    (branch_of _ (sound _ p.0) _ _ _ _ c.single-r.ensures c.serial_below.ensures)
 
-serial_below_returns_3 : (t : ℕ) → serial-below-lts.Need-returns-3 (serial_calls t) (serial_below_at t) serial-below.Post
+serial_below_returns_3 : (t : ℕ) → serial-below-lts.Need-returns-else-is_serial (serial_calls t) (serial_below_at t) serial-below.Post
 serial_below_returns_3 t c =
-    let p = c.before.before.before.before.before.before.before.before.requires.1 in
-    serial_done _ (sound _ p.0) _ _ _ _ p.1 p.3 c.before.before.before.before.before.before.kept-child.ensures
-    (branch_of _ (sound _ p.0) _ _ _ _ c.before.before.before.before.before.single.ensures c.parallel-below.ensures)
+    let p = c.requires.1 in
+    serial_done _ (sound _ p.0) _ _ _ _ p.1 p.3 c.kept_child-c.ensures
+    (branch_of _ (sound _ p.0) _ _ _ _ c.single-r.ensures c.parallel_below.ensures)
 
-pub +parallel-below-serial-below-spec : {M : Type 1} → statement M
-+parallel-below-serial-below-spec =
+pub +parallel_below_serial_below_spec : {M : Type 1} → statement M
++parallel_below_serial_below_spec =
     close μ_parallel_below μ_serial_below
     (λ t. parallel-below-lts.spec (parallel_calls t) (parallel_below_at t) parallel-below.Post invariant_loop decreases_loop
     (parallel_below_mul_r t) (parallel_below_element_copy_out_r t) (parallel_below_loop_holds t)

@@ -16,29 +16,29 @@ use Rattle.hierarchy.proofs.complete.kept_child.Tie as tie
 word : (c : tie.Start) → get_or c.args.children.now c.args.m 0 ≡ children c.args.sheet.now c.args.m
 word c = let p = c.requires in children_word _ _ _ p.0 p.1 p.2
 
-mul-c : tie.Need-overflow-mul-c
-mul-c c = let p = c.before.requires in omega (arith, mode_small _ p.0 _ p.1)
+mul-c : tie.Need-offset_bounds-children-m
+mul-c c = let p = c.requires in omega (arith, mode_small _ p.0 _ p.1)
 
-element-copy-out-c : tie.Need-element-copy-out-c
-element-copy-out-c c = let p = c.before.requires in mode_small _ p.0 _ p.1
+element-copy-out-c : tie.Need-bounds-children-m
+element-copy-out-c c = let p = c.requires in mode_small _ p.0 _ p.1
 
 first-requires : tie.Need-first-requires
-first-requires c κs = let p = c.before.before.before.requires in row_read _ p.0 _ p.1
+first-requires c κs = let p = c.requires in row_read _ p.0 _ p.1
 
-returns : tie.Need-returns
+returns : tie.Need-returns-then-c-eq0
 returns c =
-    let s = c.before.before.before.before in
+    let s = c.before.before.before.before.before in
     let p = s.requires in
-    c.first.ensures ∙ kept_child_first _ (sound _ p.0) _ _ _ (word s) c.before.if1.true
+    c.first.ensures ∙ kept_child_first _ (sound _ p.0) _ _ _ (word s) c.if-c-eq0.true
 
 highest-requires : tie.Need-highest-requires
 highest-requires c κs = search rules
 
-returns-2 : tie.Need-returns-2
+returns-2 : tie.Need-returns
 returns-2 c =
-    let s = c.before.before.before.before in
+    let s = c.before.before.before.before.before in
     let p = s.requires in
-    c.highest.ensures ∙ kept_child_highest _ (sound _ p.0) _ _ _ (word s) s.ranges.x.fits (pos_of_ne-zero c.before.if1.false)
+    c.highest.ensures ∙ kept_child_highest _ (sound _ p.0) _ _ _ (word s) s.ranges.x.fits (pos_of_ne-zero c.if-c-eq0.false)
 
-pub kept-child-spec : {M : Type 1} → statement M
-kept-child-spec = tie.close (tie.spec mul-c element-copy-out-c first-requires returns highest-requires returns-2)
+pub kept_child_spec : {M : Type 1} → statement M
+kept_child_spec = tie.close (tie.spec mul-c element-copy-out-c first-requires returns highest-requires returns-2)
