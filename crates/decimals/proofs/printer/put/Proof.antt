@@ -13,41 +13,41 @@ use Rattle.decimals.proofs.Lines.{copy_turn}
 use Rattle.decimals.proofs.printer.put.Statement.{statement}
 use Rattle.decimals.proofs.printer.put.Tie as tie
 
-abbrev invariant_loop : tie.invariant-loop
+abbrev invariant_loop : tie.invariant-loop-i
 invariant_loop line₀ at n digits count i₀ line i = (i ≤ count) × (count ≤ 10) × (length line ≡ length line₀) × (line ≡ over line₀ at (take i digits))
 
-abbrev decreases_loop : tie.decreases-loop
+abbrev decreases_loop : tie.decreases-loop-i
 decreases_loop line₀ at n digits count i₀ line i = count - i
 
-decimal-requires : tie.Need-decimal-requires invariant_loop decreases_loop
+decimal-requires : tie.Need-decimal-count-requires invariant_loop decreases_loop
 decimal-requires c κs = search rules
 
-loop-holds : tie.Need-loop-init invariant_loop decreases_loop
+loop-holds : tie.Need-loop-i-init invariant_loop decreases_loop
 loop-holds c =
-    let a = c.before.before.before.args in
-    let few : c.decimal.result < 11 = few_digits a.n c.decimal.result (search rules) c.decimal.ensures.1.0.2 in
+    let a = c.args in
+    let few : c.decimal-count.result < 11 = few_digits a.n c.decimal-count.result (search rules) c.decimal-count.ensures.1.0.2 in
     (search rules, omega arith, refl, sym (over_nil a.line.now a.at))
 
-array-read-line : tie.Need-array-read-line invariant_loop decreases_loop
+array-read-line : tie.Need-bounds-digits-i invariant_loop decreases_loop
 array-read-line c = search rules
 
-add-line : tie.Need-overflow-add-line invariant_loop decreases_loop
+add-line : tie.Need-overflow_add-line invariant_loop decreases_loop
 add-line c = search rules
 
-slice-write-line : tie.Need-slice-write-line invariant_loop decreases_loop
+slice-write-line : tie.Need-bounds-line-at invariant_loop decreases_loop
 slice-write-line c = search rules
 
-add-i : tie.Need-overflow-add-i invariant_loop decreases_loop
+add-i : tie.Need-overflow_add-i invariant_loop decreases_loop
 add-i c = search rules
 
-loop-less : tie.Need-loop-smaller invariant_loop decreases_loop
+loop-less : tie.Need-loop-i-smaller invariant_loop decreases_loop
 loop-less c = search rules
 
-loop-again : tie.Need-loop-preserved invariant_loop decreases_loop
+loop-again : tie.Need-loop-i-preserved invariant_loop decreases_loop
 loop-again c =
-    let l = c.before.loop in
-    let d = c.before.before.decimal in
-    let a = c.before.before.before.before.before.args in
+    let l = c.loop-i in
+    let d = c.decimal-count in
+    let a = c.args in
     let turn = copy_turn a.line.now d.new.1.0 a.at l.i (search rules) (search rules) in (
       search rules,
       search rules,
@@ -55,17 +55,17 @@ loop-again c =
       ap (λ (t : List ℕ). set t (a.at + l.i) (get_or d.new.1.0 l.i 0)) l.invariant.3 ∙ turn,
     )
 
-add-result : tie.Need-overflow-add-result invariant_loop decreases_loop
+add-result : tie.Need-overflow_add-result invariant_loop decreases_loop
 add-result c = search rules
 
-same_length : tie.Need-same-length invariant_loop decreases_loop
+same_length : tie.Need-shape_of-line invariant_loop decreases_loop
 same_length c = search rules
 
 returns : tie.Need-returns invariant_loop decreases_loop
 returns c =
-    let l = c.before.loop in
-    let d = c.before.before.decimal in
-    let a = c.before.before.before.before.before.args in
+    let l = c.loop-i in
+    let d = c.decimal-count in
+    let a = c.args in
     let small : a.n < 2 ^ 32 = search rules in
     let all : l.i ≡ d.result = omega arith in
     let line : l.line ≡ over a.line.now a.at (take d.result d.new.1.0) =
