@@ -48,11 +48,11 @@ loop-again c =
     let l = c.loop-i in
     let d = c.decimal-count in
     let a = c.args in
-    let turn = copy_turn a.line.now d.new.1.0 a.at l.i (search rules) (search rules) in (
+    let turn = copy_turn a.line.now d.new.out a.at l.i (search rules) (search rules) in (
       search rules,
       search rules,
       simp length-set l.invariant.2,
-      ap (λ (t : List ℕ). set t (a.at + l.i) (get_or d.new.1.0 l.i 0)) l.invariant.3 ∙ turn,
+      ap (λ (t : List ℕ). set t (a.at + l.i) (get_or d.new.out l.i 0)) l.invariant.3 ∙ turn,
     )
 
 add-result : tie.Need-overflow_add-result invariant_loop decreases_loop
@@ -68,9 +68,9 @@ returns c =
     let a = c.args in
     let small : a.n < 2 ^ 32 = search rules in
     let all : l.i ≡ d.result = omega arith in
-    let line : l.line ≡ over a.line.now a.at (take d.result d.new.1.0) =
-    l.invariant.3 ∙ ap (λ (i : ℕ). over a.line.now a.at (take i d.new.1.0)) all in (
-      line ∙ ap (over a.line.now a.at) (d.ensures.1.1 ∙ decimal_is a.n d.result small d.ensures.1.0),
+    let line : l.line ≡ over a.line.now a.at (take d.result d.new.out) =
+    l.invariant.3 ∙ ap (λ (i : ℕ). over a.line.now a.at (take i d.new.out)) all in (
+      line ∙ ap (over a.line.now a.at) (d.ensures.1.1.0 ∙ decimal_is a.n d.result small d.ensures.1.0),
       omega (arith, decimal_length a.n d.result small d.ensures.1.0),
       search rules,
     )
