@@ -14,5 +14,5 @@ returns c =
     let b = c.before.before.before in
     early_is b.args.sheet.now b.requires.0 b.requires.1 c.judged.ensures
 
-pub early-spec : {M : Type 1} → statement M
-early-spec = tie.close (tie.spec judged-requires returns)
+pub early_spec : {M : Type 1} → statement M
+early_spec = tie.close (tie.spec judged-requires returns)

@@ -7,23 +7,23 @@ use Rattle.planner.specs.Parts.{is_sure}
 use Rattle.planner.proofs.classes.is_sure.Statement.{statement}
 use Rattle.planner.proofs.classes.is_sure.Tie as tie
 
-is-delay-requires : tie.Need-is-delay-requires
+is-delay-requires : tie.Need-is_delay-requires
 is-delay-requires c κs = search rules
 
 delay-requires : tie.Need-delay-requires
 delay-requires c κs = search rules
 
-returns : tie.Need-returns
+returns : tie.Need-returns-then-is_delay
 unfolding is_sure
-returns c = rw (← c.before.before.is-delay.ensures, c.before.if1.true) (ap (λ (x : ℕ). eqb x 0) c.delay.ensures)
+returns c = rw (← c.is_delay.ensures, c.if-is_delay.true) (ap (λ (x : ℕ). eqb x 0) c.delay.ensures)
 
-events-only-requires : tie.Need-events-only-requires
+events-only-requires : tie.Need-events_only-requires
 events-only-requires c κs = search rules
 
-returns-2 : tie.Need-returns-2
+returns-2 : tie.Need-returns
 unfolding is_sure
-returns-2 c = rw (← c.before.before.is-delay.ensures, c.before.if1.false) c.events-only.ensures
+returns-2 c = rw (← c.is_delay.ensures, c.if-is_delay.false) c.events_only.ensures
 
-pub is-sure-spec : {M : Type 1} → statement M
-is-sure-spec =
+pub is_sure_spec : {M : Type 1} → statement M
+is_sure_spec =
     tie.close (tie.spec is-delay-requires delay-requires returns events-only-requires returns-2)

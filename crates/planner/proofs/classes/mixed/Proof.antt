@@ -7,8 +7,8 @@ use Rattle.planner.proofs.ClassLaws.{mixed_is}
 use Rattle.planner.proofs.classes.mixed.Statement.{statement}
 use Rattle.planner.proofs.classes.mixed.Tie as tie
 
-transition-count-requires : tie.Need-transition-count-requires
-transition-count-requires c κs = head_read c.before.args.sheet.now c.before.requires.0
+transition-count-requires : tie.Need-transition_count-requires
+transition-count-requires c κs = head_read c.args.sheet.now c.requires.0
 
 below-requires : tie.Need-below-requires
 below-requires c κs =
@@ -21,7 +21,7 @@ minus-requires c κs = search rules
 returns : tie.Need-returns
 returns c =
     let b = c.before.before.before.before in
-    mixed_is b.args.sheet.now c.before.before.transition-count.ensures c.before.below.ensures b.requires.1 b.requires.2 c.minus.ensures
+    mixed_is b.args.sheet.now c.transition_count.ensures c.below.ensures b.requires.1 b.requires.2 c.minus.ensures
 
-pub mixed-spec : {M : Type 1} → statement M
-mixed-spec = tie.close (tie.spec transition-count-requires below-requires minus-requires returns)
+pub mixed_spec : {M : Type 1} → statement M
+mixed_spec = tie.close (tie.spec transition-count-requires below-requires minus-requires returns)

@@ -5,23 +5,23 @@ use Rattle.planner.proofs.HitLaws.{inputs_all, inputs_on, sure_events}
 use Rattle.planner.proofs.hits.inputs_of.Statement.{statement}
 use Rattle.planner.proofs.hits.inputs_of.Tie as tie
 
-is-delay-requires : tie.Need-is-delay-requires
+is-delay-requires : tie.Need-is_delay-requires
 is-delay-requires c κs = search rules
 
-returns : tie.Need-returns
+returns : tie.Need-returns-then-is_delay
 returns c =
     let b = c.before.before.before in
-    inputs_all b.args.sheet.now b.args.t (sym c.before.is-delay.ensures ∙ c.if1.true)
+    inputs_all b.args.sheet.now b.args.t (sym c.is_delay.ensures ∙ c.if-is_delay.true)
 
-inputs-on-requires : tie.Need-inputs-on-requires
+inputs-on-requires : tie.Need-inputs_on-requires
 inputs-on-requires c κs =
     let b = c.before.before.before in
-    (b.requires.0, b.requires.1, sure_events b.args.sheet.now b.args.t b.requires.2 (sym c.before.is-delay.ensures ∙ c.if1.false))
+    (b.requires.0, b.requires.1, sure_events b.args.sheet.now b.args.t b.requires.2 (sym c.is_delay.ensures ∙ c.if-is_delay.false))
 
-returns-2 : tie.Need-returns-2
+returns-2 : tie.Need-returns
 returns-2 c =
     let b = c.before.before.before.before in
-    inputs_on b.args.sheet.now b.args.t (sym c.before.before.is-delay.ensures ∙ c.before.if1.false) c.inputs_on.ensures
+    inputs_on b.args.sheet.now b.args.t (sym c.is_delay.ensures ∙ c.if-is_delay.false) c.inputs_on.ensures
 
-pub inputs-of-spec : {M : Type 1} → statement M
-inputs-of-spec = tie.close (tie.spec is-delay-requires returns inputs-on-requires returns-2)
+pub inputs_of_spec : {M : Type 1} → statement M
+inputs_of_spec = tie.close (tie.spec is-delay-requires returns inputs-on-requires returns-2)

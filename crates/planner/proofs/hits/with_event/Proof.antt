@@ -4,14 +4,14 @@ use Rattle.planner.proofs.HitLaws.{with_event_lem}
 use Rattle.planner.proofs.hits.with_event.Statement.{statement}
 use Rattle.planner.proofs.hits.with_event.Tie as tie
 
-mul-result : tie.Need-overflow-mul-result
+mul-result : tie.Need-offset_bounds-words-e
 mul-result c = search rules
 
-array-read-result : tie.Need-array-read-result
+array-read-result : tie.Need-bounds-words-e
 array-read-result c = search rules
 
 returns : tie.Need-returns
 returns c = with_event_lem c.args.e c.requires
 
-pub with-event-spec : {M : Type 1} → statement M
-with-event-spec = tie.close (tie.spec mul-result array-read-result returns)
+pub with_event_spec : {M : Type 1} → statement M
+with_event_spec = tie.close (tie.spec mul-result array-read-result returns)

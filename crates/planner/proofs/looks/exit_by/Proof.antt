@@ -10,13 +10,13 @@ wide-requires : tie.Need-wide-requires
 wide-requires c κs = search rules
 
 single-requires : tie.Need-single-requires
-single-requires c κs = omega (arith, c.wide.ensures, c.before.before.requires c.before.if1.true)
+single-requires c κs = omega (arith, c.wide.ensures, c.requires c.if-kind-eq5.true)
 
-returns : tie.Need-returns
-returns c i = one_where _ _ i (eq-eqb _ 5 c.before.before.if1.true) c.before.wide.ensures c.single.ensures
+returns : tie.Need-returns-then-kind-eq5
+returns c i = one_where _ _ i (eq-eqb _ 5 c.if-kind-eq5.true) c.wide.ensures c.single.ensures
 
-returns-2 : tie.Need-returns-2
-returns-2 c i = none_where _ _ i (ne_eqb _ 5 c.if1.false)
+returns-2 : tie.Need-returns
+returns-2 c i = none_where _ _ i (ne_eqb _ 5 c.if-kind-eq5.false)
 
-pub exit-by-spec : {M : Type 1} → statement M
-exit-by-spec = tie.close (tie.spec wide-requires single-requires returns returns-2)
+pub exit_by_spec : {M : Type 1} → statement M
+exit_by_spec = tie.close (tie.spec wide-requires single-requires returns returns-2)

@@ -15,47 +15,47 @@ use Rattle.planner.proofs.NextLaws.{events_done, next_done, plan_done, entries_d
 use Rattle.planner.proofs.next.put_next.Statement.{statement}
 use Rattle.planner.proofs.next.put_next.Tie as tie
 
-from-each-requires : tie.Need-from-each-requires
+from-each-requires : tie.Need-from_each-entry-requires
 from-each-requires c κs = search rules
 
-put-looks-requires : tie.Need-put-looks-requires
+put-looks-requires : tie.Need-put_looks-events-requires
 put-looks-requires c κs = search rules
 
-union-within-requires : tie.Need-union-within-requires
+union-within-requires : tie.Need-union_within-requires
 union-within-requires c κs = search rules
 
 -- once all terms were looked at: the sheet
-module _ (c : tie.After-put-looks) where
+module _ (c : tie.After-put_looks-events) where
   abbrev start : tie.Start
-  start = c.before.before.before.before.before.before.before
+  start = c.before.before.before.before.before.before
 
   abbrev sheet : List ℕ
   sheet = start.args.sheet.now
 
   past : sheet_refusal sheet ≡ 0
-  past = start.pre.0
+  past = start.requires.0
 
-join-next-requires : tie.Need-join-next-requires
+join-next-requires : tie.Need-join_next-requires
 join-next-requires c κs =
     let at = c.before.before.before.before.before in
     let s = sheet at in
     let h = past at in
-    let d = at.put-looks.ensures in
+    let d = at.put_looks-events.ensures in
     let few : t_of s ≤ 64 = t_le s (sound s h) in (
       h,
       d.plan_long ∙ (start at).requires.1,
       λ t l. d.beside (ends_part + t) (λ x y. omega arith) (λ x y. omega arith) ∙ (start at).requires.3 t l,
       λ t l. next_done s h d t (omega arith),
-      entries_done s h d at.before.before.before.before.from_Each.ensures,
-      exits_done s h d (get_or_zeros 32) _ c.before.before.before.union-within.ensures,
+      entries_done s h d at.from_each-entry.ensures,
+      exits_done s h d (get_or_zeros 32) _ c.union_within.ensures,
     )
 
 returns : tie.Need-returns
 returns c =
     let at = c.before.before.before.before.before.before in
     let s = sheet at in
-    let d = at.put-looks.ensures in
-    (events_done s (past at) d, c.join-next.ensures ∙ ap (λ (l : List ℕ). over l next_part (row_from 0 (t_of s) (next_of s))) (plan_done s (past at) d (start at).requires.1))
+    let d = at.put_looks-events.ensures in
+    (events_done s (past at) d, c.join_next.ensures ∙ ap (λ (l : List ℕ). over l next_part (row_from 0 (t_of s) (next_of s))) (plan_done s (past at) d (start at).requires.1))
 
-pub put-next-spec : {M : Type 1} → statement M
-put-next-spec = tie.close (tie.spec from-each-requires put-looks-requires union-within-requires join-next-requires returns)
+pub put_next_spec : {M : Type 1} → statement M
+put_next_spec = tie.close (tie.spec from-each-requires put-looks-requires union-within-requires join-next-requires returns)
