@@ -4,29 +4,29 @@ use borrow.Author.Rules.{rules}
 use Rattle.case_text.proofs.parts.read_words.Statement.{statement}
 use Rattle.case_text.proofs.parts.read_words.Tie as tie
 
-number-requires : tie.Need-number-requires
+number-requires : tie.Need-number-m-requires
 number-requires c κs = search rules
 
-at-most-requires : tie.Need-at-most-requires
+at-most-requires : tie.Need-at_most-count-requires
 at-most-requires c κs = search rules
 
-slice-relend-prefix-numbers : tie.Need-slice-relend-prefix-numbers
+slice-relend-prefix-numbers : tie.Need-slice_bounds-numbers-end
 slice-relend-prefix-numbers c = search rules
 
-slice-aggregate-numbers : tie.Need-slice-aggregate-numbers
+slice-aggregate-numbers : tie.Need-slice_bounds-numbers-end-2
 slice-aggregate-numbers c = simp length-take (search rules)
 
-numbers-requires : tie.Need-numbers-requires
+numbers-requires : tie.Need-numbers-input-requires
 numbers-requires c κs = search rules
 
-same_length : tie.Need-same-length
+same_length : tie.Need-shape_of-words
 same_length c = search rules
 
 returns : tie.Need-returns
 returns c = search rules
 
-pub read-words-spec : {M : Type 1} → statement M
-read-words-spec =
+pub read_words_spec : {M : Type 1} → statement M
+read_words_spec =
     tie.close
     (tie.spec number-requires at-most-requires slice-relend-prefix-numbers slice-aggregate-numbers numbers-requires
     same_length returns)

@@ -6,28 +6,28 @@ use lib.ListN.{length}
 use Rattle.case_text.proofs.text.start.Statement.{statement}
 use Rattle.case_text.proofs.text.start.Tie as tie
 
-abbrev invariant_loop : tie.invariant-loop
+abbrev invariant_loop : tie.invariant-loop-i
 invariant_loop line₀ word i₀ line i = i ≤ length word
 
-abbrev decreases_loop : tie.decreases-loop
+abbrev decreases_loop : tie.decreases-loop-i
 decreases_loop line₀ word i₀ line i = length word - i
 
-loop-holds : tie.Need-loop-init invariant_loop decreases_loop
+loop-holds : tie.Need-loop-i-init invariant_loop decreases_loop
 loop-holds c = search rules
 
-shared-slice-read-line : tie.Need-shared-slice-read-line invariant_loop decreases_loop
+shared-slice-read-line : tie.Need-bounds-word-i invariant_loop decreases_loop
 shared-slice-read-line c = search rules
 
-element-write-line : tie.Need-element-write-line invariant_loop decreases_loop
+element-write-line : tie.Need-bounds-line-i invariant_loop decreases_loop
 element-write-line c = search rules
 
-add-i : tie.Need-overflow-add-i invariant_loop decreases_loop
+add-i : tie.Need-overflow_add-i invariant_loop decreases_loop
 add-i c = search rules
 
-loop-less : tie.Need-loop-smaller invariant_loop decreases_loop
+loop-less : tie.Need-loop-i-smaller invariant_loop decreases_loop
 loop-less c = search rules
 
-loop-again : tie.Need-loop-preserved invariant_loop decreases_loop
+loop-again : tie.Need-loop-i-preserved invariant_loop decreases_loop
 loop-again c = search rules
 
 returns : tie.Need-returns invariant_loop decreases_loop
