@@ -269,8 +269,7 @@ fn ticks(table: &[u32], delays: &[u64; 64], start: State, inputs: &[u32], out: &
 // The table run, on any table words, state, input sets and output words: 15, 14, 12, then tick by tick 13, then 15. A
 // refused tick leaves the state of the tick before; only the five words of each done tick are written, at 5p.
 pub fn run(table: &[u32], state: State, inputs: &[u32], out: &mut [u32]) -> Ran
-    ensures { ran_of result out.new
-        ≡ table_run table.now (state_of state) inputs.now out.old }
+    ensures { ran_of result out.new ≡ table_run table.now (state_of state) inputs.now out.old }
 {
     if !table_ok(table) {
         return stops(state, Refusal::Layout);

@@ -10,7 +10,7 @@ minus-requires-2 : tie.Need-minus-requires-2
 minus-requires-2 c κs = search rules
 
 returns : tie.Need-returns
-returns c = rw (c.minus2.ensures, c.before.minus.ensures)
+returns c = rw (c.minus-2.ensures, c.minus.ensures)
 
-pub is-stale-spec : {M : Type 1} → statement M
-is-stale-spec = tie.close (tie.spec minus-requires minus-requires-2 returns)
+pub is_stale_spec : {M : Type 1} → statement M
+is_stale_spec = tie.close (tie.spec minus-requires minus-requires-2 returns)

@@ -5,14 +5,14 @@ use lib.Dec.{eqb}
 use Rattle.recorder.proofs.table_run.stays.Statement.{statement}
 use Rattle.recorder.proofs.table_run.stays.Tie as tie
 
-returns : tie.Need-returns
-returns c = let a = c.before.args in rw (ne_eqb a.next a.number c.if1.true)
+returns : tie.Need-returns-then-next-number
+returns c = let a = c.args in rw (ne_eqb a.next a.number c.if-next-number.true)
 
-returns-2 : tie.Need-returns-2
-returns-2 c = let a = c.before.before.args in rw (ne_eqb a.due 0 c.if2.true, and-false (eqb a.next a.number))
+returns-2 : tie.Need-returns-then-due-ne0
+returns-2 c = let a = c.args in rw (ne_eqb a.due 0 c.if-due-ne0.true, and-false (eqb a.next a.number))
 
-returns-3 : tie.Need-returns-3
-returns-3 c = let a = c.before.before.args in rw (eq-eqb a.next a.number c.before.if1.false, eq-eqb a.due 0 c.if2.false)
+returns-3 : tie.Need-returns
+returns-3 c = let a = c.args in rw (eq-eqb a.next a.number c.if-next-number.false, eq-eqb a.due 0 c.if-due-ne0.false)
 
-pub stays-spec : {M : Type 1} → statement M
-stays-spec = tie.close (tie.spec returns returns-2 returns-3)
+pub stays_spec : {M : Type 1} → statement M
+stays_spec = tie.close (tie.spec returns returns-2 returns-3)

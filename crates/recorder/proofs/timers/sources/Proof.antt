@@ -19,50 +19,50 @@ use Rattle.recorder.proofs.timers.sources.Tie as tie
 abbrev timed : List ℕ → ℕ → Bool
 timed from m = not (eqb (get_or from m 0) 0)
 
-abbrev invariant_loop : tie.invariant-loop
+abbrev invariant_loop : tie.invariant-loop-m
 invariant_loop from r₀ m₀ r m = (m ≤ 32) × (r ≡ set_of m (timed from))
 
-abbrev decreases_loop : tie.decreases-loop
+abbrev decreases_loop : tie.decreases-loop-m
 decreases_loop from r₀ m₀ r m = 32 - m
 
-loop-holds : tie.Need-loop-init invariant_loop decreases_loop
+loop-holds : tie.Need-loop-m-init invariant_loop decreases_loop
 unfolding set_of
 loop-holds c = (omega arith, refl)
 
-mul-if1 : tie.Need-overflow-mul-if1 invariant_loop decreases_loop
+mul-if1 : tie.Need-offset_bounds-from-m invariant_loop decreases_loop
 mul-if1 c = search rules
 
-element-copy-out-if1 : tie.Need-element-copy-out-if1 invariant_loop decreases_loop
+element-copy-out-if1 : tie.Need-bounds-from-m invariant_loop decreases_loop
 element-copy-out-if1 c = search rules
 
-single-requires : tie.Need-single-requires invariant_loop decreases_loop
+single-requires : tie.Need-single-r-requires invariant_loop decreases_loop
 single-requires c κs = search rules
 
-add-m : tie.Need-overflow-add-m invariant_loop decreases_loop
+add-m : tie.Need-overflow_add-m invariant_loop decreases_loop
 add-m c = search rules
 
-loop-less : tie.Need-loop-smaller invariant_loop decreases_loop
+loop-less : tie.Need-loop-m-smaller invariant_loop decreases_loop
 loop-less c = search rules
 
-loop-again : tie.Need-loop-preserved invariant_loop decreases_loop
+loop-again : tie.Need-loop-m-preserved invariant_loop decreases_loop
 loop-again c =
-    let l = c.before.before.before.loop in
-    let p = timed c.before.before.before.before.args.from.now in (
+    let l = c.loop-m in
+    let p = timed c.args.from.now in (
       omega arith,
       ⊎_elim
-          (λ v. v.2 ∙ ap (λ (x : ℕ). union x v.1.result) l.invariant.1 ∙ ap (union (set_of l.m p)) v.1.ensures ∙ set_of-add l.m p (ap not (ne_eqb _ 0 v.0.taken)))
-          (λ v. v.1 ∙ l.invariant.1 ∙ set_of_skip l.m p (ap not (eq-eqb _ 0 v.0.left)))
-          c.if1.branch,
+          (λ v. v.r-is ∙ ap (λ (x : ℕ). union x v.single-r.result) l.invariant.1 ∙ ap (union (set_of l.m p)) v.single-r.ensures ∙ set_of-add l.m p (ap not (ne_eqb _ 0 v.if-from-m-ne0.true)))
+          (λ v. v.r-is ∙ l.invariant.1 ∙ set_of_skip l.m p (ap not (eq-eqb _ 0 v.if-from-m-ne0.false)))
+          c.if-from-m-ne0.branch-raw,
     )
 
 returns : tie.Need-returns invariant_loop decreases_loop
 returns c =
-    let l = c.before.loop in
-    let a = c.before.before.args in
-    l.invariant.1 ∙ ap (λ (n : ℕ). set_of n (timed a.from.now)) (le_antisymm l.invariant.0 c.loop-test.false)
+    let l = c.loop-m in
+    let a = c.args in
+    l.invariant.1 ∙ ap (λ (n : ℕ). set_of n (timed a.from.now)) (le_antisymm l.invariant.0 c.loop-m-test.false)
 
-pub sources-spec : {M : Type 1} → statement M
-sources-spec =
+pub sources_spec : {M : Type 1} → statement M
+sources_spec =
     tie.close
     (tie.spec invariant_loop decreases_loop loop-holds mul-if1 element-copy-out-if1 single-requires add-m loop-less loop-again
     returns)
