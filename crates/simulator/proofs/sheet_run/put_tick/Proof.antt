@@ -10,11 +10,11 @@ returns : tie.Need-returns
 returns c =
     let put = c.before.before in
     let five = put.before.before.before.before in
-    let a = five.before.before.before.before.before.before.args in
-    (five.put_five.ensures ∙ ap (over a.out.now (5 * a.i)) five.before.five-words.ensures, put.put-numbers.ensures)
+    let a = five.args in
+    (five.put_five.ensures ∙ ap (over a.out.now (5 * a.i)) five.five_words.ensures, put.put_numbers.ensures)
 
-pub put-tick-spec : {M : Type 1} → statement M
-put-tick-spec =
+pub put_tick_spec : {M : Type 1} → statement M
+put_tick_spec =
     tie.close
     (tie.spec
     (λ c. search rules)

@@ -7,20 +7,20 @@ use Rattle.reaction.proofs.StartLaws.{start_other}
 use Rattle.simulator.proofs.sheet_run.start_from.Statement.{statement}
 use Rattle.simulator.proofs.sheet_run.start_from.Tie as tie
 
-returns : tie.Need-returns
+returns : tie.Need-returns-then-x-eq0
 returns c =
     let s = c.before in
     let a = s.args in
-    subst (λ (x : ℕ). StartOf a.sheet.now x a.first) (sym c.if1.true) s.requires.1
+    subst (λ (x : ℕ). StartOf a.sheet.now x a.first) (sym c.if-x-eq0.true) s.requires.1
 
-element-copy-out-t9 : tie.Need-element-copy-out-t9
+element-copy-out-t9 : tie.Need-bounds-plan-450
 element-copy-out-t9 c = search rules
 
-returns-2 : tie.Need-returns-2
+returns-2 : tie.Need-returns
 returns-2 c =
-    let s = c.before.before in
+    let s = c.before.before.before in
     let a = s.args in
-    start_other a.sheet.now a.plan.now s.requires.0 c.before.if1.false s.requires.2
+    start_other a.sheet.now a.plan.now s.requires.0 c.if-x-eq0.false s.requires.2
 
-pub start-from-spec : {M : Type 1} → statement M
-start-from-spec = tie.close (tie.spec returns element-copy-out-t9 returns-2)
+pub start_from_spec : {M : Type 1} → statement M
+start_from_spec = tie.close (tie.spec returns element-copy-out-t9 returns-2)

@@ -13,40 +13,40 @@ use Rattle.simulator.proofs.state.timers_ok.Statement.{statement}
 use Rattle.simulator.proofs.state.timers_ok.Tie as tie
 
 -- the function's entry, from where the set is tested; that place from the end
-abbrev entry : tie.After-struct-known → tie.Start
+abbrev entry : tie.After-struct_known-1 → tie.Start
 entry c = c.before.before
 
-abbrev tested : tie.After-readings-ok → tie.Joined1
+abbrev tested : tie.After-readings_ok → tie.Joined-else-state-ne0
 tested c = c.before.before.before.before
 
-is-consistent-requires : tie.Need-is-consistent-requires
+is-consistent-requires : tie.Need-is_consistent-requires
 is-consistent-requires c κs = search rules
 
-returns : tie.Need-returns
+returns : tie.Need-returns-then-not-is_consistent
 returns c =
     let set = c.before.before in
     let a = (entry set.before).args in
-    timers_inconsistent a.sheet.now (state_of a.state) set.if1.true (failed c.before.is-consistent.ensures c.if2.true)
+    timers_inconsistent a.sheet.now (state_of a.state) set.if-state-ne0.true (failed c.is_consistent.ensures c.if-not-is_consistent.true-raw)
 
 running-requires : tie.Need-running-requires
 running-requires c κs = search rules
 
-readings-ok-requires : tie.Need-readings-ok-requires
+readings-ok-requires : tie.Need-readings_ok-requires
 readings-ok-requires c κs = search rules
 
-returns-2 : tie.Need-returns-2
+returns-2 : tie.Need-returns
 returns-2 c =
     let s = entry (tested c).before in
     let a = s.args in
     let q = state_of a.state in
-    c.readings-ok.ensures
-    ∙ ap (λ (y : ℕ). readings_ok y (λ t. get_or a.delays.now t 0) q.readings) c.before.before.running.ensures
+    c.readings_ok.ensures
+    ∙ ap (λ (y : ℕ). readings_ok y (λ t. get_or a.delays.now t 0) q.readings) c.running.ensures
     ∙ ⊎_elim
-    (λ w. timers_consistent a.sheet.now q s.pre.1 w.0.taken (passed w.1.ensures w.2.left))
-    (λ w. timers_fresh a.sheet.now q s.pre.1 w.left)
-    (tested c).if1.branch
+    (λ w. timers_consistent a.sheet.now q s.requires.1 w.if-state-ne0.true (passed w.is_consistent.ensures w.if-not-is_consistent.false-raw))
+    (λ w. timers_fresh a.sheet.now q s.requires.1 w.if-state-ne0.false)
+    (tested c).else-state-ne0.branch-raw
 
-pub timers-ok-spec : {M : Type 1} → statement M
-timers-ok-spec =
+pub timers_ok_spec : {M : Type 1} → statement M
+timers_ok_spec =
     tie.close
     (tie.spec is-consistent-requires returns running-requires readings-ok-requires returns-2)
