@@ -125,12 +125,15 @@ once_le n left k r (again _ _) = omega arith
 pub looked_less : (c r : Schedule) (well works : Bool) → c.serving ≡ false → c.at < c.count
     → AfterLook c well works r → most r < most c
 unfolding most
-looked_less c r well works e l (bad _) = let m = most_looking c e in omega arith
-looked_less c r well works e l (more _ _) = let m = most_looking c e in omega arith
-looked_less c r well works e l (all _ _ _ o) =
-    let m = most_looking c e in
-    let k = once_le c.count c.left (c.working + digit works) r o in
-    omega arith
+looked_less c r well works e l a = go works r a
+  where
+    go : (works : Bool) (r : Schedule) → AfterLook c well works r → most r < most c
+    go works r (bad _) = let m = most_looking c e in omega arith
+    go works r (more _ _) = let m = most_looking c e in omega arith
+    go works r (all _ _ _ o) =
+        let m = most_looking c e in
+        let k = once_le c.count c.left (c.working + digit works) r o in
+        omega arith
 
 digit_none : (n : ℕ) → n + digit false ≡ n
 unfolding digit

@@ -1,6 +1,6 @@
-// Stations on one table under one tick allowance. Each function with a `&mut [Station]` is proved by a walk of its code by hand; all that
-// is decided is in functions that take a station by value. A station that has several turns to come before the allowance can be spent
-// gets them at once: a station's ticks depend on no other station, so this is what pass after pass gives.
+// Stations on one table under one tick allowance. All that is decided is in functions that take a station by value. A station that has
+// several turns to come before the allowance can be spent gets them at once: a station's ticks depend on no other station, so this is
+// what pass after pass gives.
 #![tactic(auto)]
 
 ghost use Rattle.std.specs.Prelude.{◌≡◌, false, ◌-◌, ◌<◌, length, get_or};

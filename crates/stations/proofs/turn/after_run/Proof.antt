@@ -4,10 +4,10 @@ use borrow.Author.Rules.{rules}
 use Rattle.stations.proofs.turn.after_run.Statement.{statement}
 use Rattle.stations.proofs.turn.after_run.Tie as tie
 
-cast-t6 : tie.Need-overflow-cast-t6
+cast-t6 : tie.Need-overflow_cast-result
 cast-t6 c = search rules
 
-add-t7 : tie.Need-overflow-add-t7
+add-t7 : tie.Need-overflow_add-result
 add-t7 c = search rules
 
 number-requires : tie.Need-number-requires
@@ -16,5 +16,5 @@ number-requires c κs = search rules
 returns : tie.Need-returns
 returns c = rw c.number.ensures refl
 
-pub after-run-spec : {M : Type 1} → statement M
-after-run-spec = tie.close (tie.spec cast-t6 add-t7 number-requires returns)
+pub after_run_spec : {M : Type 1} → statement M
+after_run_spec = tie.close (tie.spec cast-t6 add-t7 number-requires returns)

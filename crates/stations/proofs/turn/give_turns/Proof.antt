@@ -13,124 +13,124 @@ use Rattle.stations.proofs.turn.give_turns.Statement.{statement}
 use Rattle.stations.proofs.turn.give_turns.Tie as tie
 
 -- what is asked, from the count of ticks on; the count, from the loans on; the run, from the station after it on
-abbrev asked : tie.After-struct-known → tie.Start
+abbrev asked : tie.After-struct_known-1 → tie.Start
 asked c = c.before.before.before.before.before
 
-abbrev counted : tie.After-run-noted-arg → tie.After-ticks-at-once
+abbrev counted : tie.After-run_noted-arg-1 → tie.After-ticks_at_once-n
 counted c = c.before.before.before.before.before
 
-abbrev run : tie.After-slice-known2 → tie.After-run-noted
+abbrev run : tie.After-slice_known-2-1 → tie.After-run_noted-ran
 run c = c.before.before
 
-abbrev lent : tie.After-run-noted → tie.After-run-noted-arg
-lent c = c.before.before.before
+abbrev lent : tie.After-run_noted-ran → tie.After-run_noted-arg-1
+lent c = c.before.before.before.before
 
-sub-ticks-at-once : tie.Need-overflow-sub-ticks-at-once
+sub-ticks-at-once : tie.Need-overflow_sub-s
 sub-ticks-at-once c = let p = (asked c).requires in le_of_lt (not_at_end _ _ _ _ _ _ p.0 p.1 p.2)
 
-ticks-at-once-requires : tie.Need-ticks-at-once-requires
+ticks-at-once-requires : tie.Need-ticks_at_once-n-requires
 ticks-at-once-requires c κs = search rules
 
-cast-i : tie.Need-overflow-cast-i
+cast-i : tie.Need-overflow_cast-i
 cast-i c = search rules
 
-cast-i-2 : tie.Need-overflow-cast-i-2
+cast-i-2 : tie.Need-overflow_cast-i-2
 cast-i-2 c = search rules
 
-add-i : tie.Need-overflow-add-i
+add-i : tie.Need-overflow_add-i
 add-i c = search rules
 
-add-e : tie.Need-overflow-add-e
+add-e : tie.Need-overflow_add-e
 add-e c = search rules
 
-cast-o : tie.Need-overflow-cast-o
+cast-o : tie.Need-overflow_cast-o
 cast-o c = search rules
 
-cast-o-2 : tie.Need-overflow-cast-o-2
+cast-o-2 : tie.Need-overflow_cast-o-2
 cast-o-2 c = search rules
 
-mul-o : tie.Need-overflow-mul-o
+mul-o : tie.Need-overflow_mul-o
 mul-o c = search rules
 
-add-o : tie.Need-overflow-add-o
+add-o : tie.Need-overflow_add-o
 add-o c = search rules
 
-mul-f : tie.Need-overflow-mul-f
+mul-f : tie.Need-overflow_mul-f
 mul-f c = search rules
 
-add-f : tie.Need-overflow-add-f
+add-f : tie.Need-overflow_add-f
 add-f c = search rules
 
-sub-run-noted : tie.Need-overflow-sub-run-noted
+sub-run-noted : tie.Need-slice_bounds-run_noted-count
 sub-run-noted c = search rules
 
-part-run-noted-start : tie.Need-slice-bounds-run-noted-start
+part-run-noted-start : tie.Need-slice_bounds-run_noted-start
 part-run-noted-start c = search rules
 
-part-run-noted-end : tie.Need-slice-bounds-run-noted-end
+part-run-noted-end : tie.Need-slice_bounds-run_noted-end
 part-run-noted-end c = search rules
 
-mul-run-noted : tie.Need-overflow-mul-run-noted
+mul-run-noted : tie.Need-offset_bounds-inputs-i
 mul-run-noted c = search rules
 
-sub-run-noted-2 : tie.Need-overflow-sub-run-noted-2
+sub-run-noted-2 : tie.Need-slice_bounds-run_noted-count-2
 sub-run-noted-2 c = search rules
 
-part-run-noted-start-2 : tie.Need-slice-bounds-run-noted-start-2
+part-run-noted-start-2 : tie.Need-slice_bounds-run_noted-start-2
 part-run-noted-start-2 c = search rules
 
-part-run-noted-end-2 : tie.Need-slice-bounds-run-noted-end-2
+part-run-noted-end-2 : tie.Need-slice_bounds-run_noted-end-2
 part-run-noted-end-2 c =
-    let t = counted c in
-    let p = (asked t.before).requires in
-    sets_end _ _ _ _ _ _ p.0 p.1 p.2 _ t.ticks-at-once.ensures
-
-mul-run-noted-2 : tie.Need-overflow-mul-run-noted-2
-mul-run-noted-2 c = search rules
-
-sub-run-noted-3 : tie.Need-overflow-sub-run-noted-3
-sub-run-noted-3 c = search rules
-
-part-run-noted-start-3 : tie.Need-slice-bounds-run-noted-start-3
-part-run-noted-start-3 c = search rules
-
-part-run-noted-end-3 : tie.Need-slice-bounds-run-noted-end-3
-part-run-noted-end-3 c =
     let t = counted c.before in
     let p = (asked t.before).requires in
-    words_end _ _ _ _ _ _ p.0 p.1 p.2 _ t.ticks-at-once.ensures
+    sets_end _ _ _ _ _ _ p.0 p.1 p.2 _ t.ticks_at_once-n.ensures
 
-run-noted-requires : tie.Need-run-noted-requires
-run-noted-requires c κs =
+mul-run-noted-2 : tie.Need-offset_bounds-out-o
+mul-run-noted-2 c = search rules
+
+sub-run-noted-3 : tie.Need-slice_bounds-run_noted-count-3
+sub-run-noted-3 c = search rules
+
+part-run-noted-start-3 : tie.Need-slice_bounds-run_noted-start-3
+part-run-noted-start-3 c = search rules
+
+part-run-noted-end-3 : tie.Need-slice_bounds-run_noted-end-3
+part-run-noted-end-3 c =
     let t = counted c.before.before in
+    let p = (asked t.before).requires in
+    words_end _ _ _ _ _ _ p.0 p.1 p.2 _ t.ticks_at_once-n.ensures
+
+run-noted-requires : tie.Need-run_noted-ran-requires
+run-noted-requires c κs =
+    let t = counted c.before.before.before in
     let b = asked t.before in
-    let p = b.pre in
+    let p = b.requires in
     let room = p.0.room in (
       p.0.table,
       rw (lent_is b.args.work.now 256 (omega arith)) (p.0.serves p.1).2,
-      lent_enough _ _ _ _ _ _ p.0 p.1 p.2 _ t.ticks-at-once.ensures,
+      lent_enough _ _ _ _ _ _ p.0 p.1 p.2 _ t.ticks_at_once-n.ensures,
     )
 
-after-run-requires : tie.Need-after-run-requires
+after-run-requires : tie.Need-after_run-station-requires
 after-run-requires c κs =
     let r = run c in
     let t = counted (lent r) in
     let p = (asked t.before).requires in
     let d =
-    done_within _ _ _ _ _ _ p.0 p.1 p.2 _ t.ticks-at-once.ensures r.run-noted.result _ r.run-noted.ensures in
-    omega (arith, d, t.before.struct_known.given.1.1.1.1.0.fits)
+    done_within _ _ _ _ _ _ p.0 p.1 p.2 _ t.ticks_at_once-n.ensures r.run_noted-ran.result _ r.run_noted-ran.ensures in
+    omega (arith, d, t.struct_known-1.given.1.1.1.1.0.fits)
 
-sub-left : tie.Need-overflow-sub-left
+sub-left : tie.Need-overflow_sub-left
 sub-left c =
     let r = run c.before.before in
     let t = counted (lent r) in
     let p = (asked t.before).requires in
-    done_left _ _ _ _ _ _ p.0 p.1 p.2 _ t.ticks-at-once.ensures r.run-noted.result _ r.run-noted.ensures
+    done_left _ _ _ _ _ _ p.0 p.1 p.2 _ t.ticks_at_once-n.ensures r.run_noted-ran.result _ r.run_noted-ran.ensures
 
-has-work-requires : tie.Need-has-work-requires
+has-work-requires : tie.Need-has_work-requires
 has-work-requires c κs = search rules
 
-served-requires : tie.Need-served-requires
+served-requires : tie.Need-served-schedule-requires
 served-requires c κs =
     let t = counted (lent (run c.before.before.before)) in
     let p = (asked t.before).requires in
@@ -139,7 +139,7 @@ served-requires c κs =
     let d = p.0.counted in
     (a, omega arith)
 
-same_length : tie.Need-same-length
+same_length : tie.Need-shape_of-out
 same_length c = search rules
 
 returns : tie.Need-returns
@@ -148,14 +148,14 @@ returns c =
     let r = run f.before in
     let t = counted (lent r) in
     let b = asked t.before in
-    let p = b.pre in
-    given_by_run _ _ _ _ _ _ p.0 p.1 p.2 _ t.ticks-at-once.ensures r.run-noted.result _ r.run-noted.ensures
-    _ _ (ap station_of f.after_run.ensures)
-    (c.served.ensures
-    ∙ ap (served_of b.args.c (b.args.c.left - r.run-noted.result.done.0)) c.before.has-work.ensures)
+    let p = b.requires in
+    given_by_run _ _ _ _ _ _ p.0 p.1 p.2 _ t.ticks_at_once-n.ensures r.run_noted-ran.result _ r.run_noted-ran.ensures
+    _ _ (ap station_of f.after_run-station.ensures)
+    (c.served-schedule.ensures
+    ∙ ap (served_of b.args.c (b.args.c.left - r.run_noted-ran.result.done.0)) c.has_work.ensures)
 
-pub give-turns-spec : {M : Type 1} → statement M
-give-turns-spec =
+pub give_turns_spec : {M : Type 1} → statement M
+give_turns_spec =
     tie.close
     (tie.spec sub-ticks-at-once ticks-at-once-requires cast-i cast-i-2 add-i add-e cast-o cast-o-2 mul-o add-o mul-f add-f
     sub-run-noted part-run-noted-start part-run-noted-end mul-run-noted sub-run-noted-2 part-run-noted-start-2 part-run-noted-end-2 mul-run-noted-2

@@ -3,11 +3,11 @@ use Rattle.stations.proofs.TurnLaws.{work_marked, work_unmarked}
 use Rattle.stations.proofs.turn.has_work.Statement.{statement}
 use Rattle.stations.proofs.turn.has_work.Tie as tie
 
-returns : tie.Need-returns
-returns c = work_marked _ c.if1.true
+returns : tie.Need-returns-then-s-ne0
+returns c = work_marked _ c.if-s-ne0.true
 
-returns-2 : tie.Need-returns-2
-returns-2 c = work_unmarked _ c.before.if1.false
+returns-2 : tie.Need-returns
+returns-2 c = work_unmarked _ c.if-s-ne0.false
 
-pub has-work-spec : {M : Type 1} → statement M
-has-work-spec = tie.close (tie.spec returns returns-2)
+pub has_work_spec : {M : Type 1} → statement M
+has_work_spec = tie.close (tie.spec returns returns-2)
