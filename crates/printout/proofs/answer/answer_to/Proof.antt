@@ -14,91 +14,91 @@ use Rattle.printout.proofs.AnswerLaws.{answer_not, answer_served, sheet_part, in
 use Rattle.printout.proofs.answer.answer_to.Statement.{statement}
 use Rattle.printout.proofs.answer.answer_to.Tie as tie
 
-abbrev entry : tie.After-asked → tie.Start
+abbrev entry : tie.After-asked-request → tie.Start
 entry c = c.before.before.before
 
-ok_is : (c : tie.After-asked) → c.asked.result.ok ≡ request_ok (entry c).args.numbers.now
-ok_is c = ap (λ (q : Request). q.ok) c.asked.ensures ∙ asked_test _
+ok_is : (c : tie.After-asked-request) → c.asked-request.result.ok ≡ request_ok (entry c).args.numbers.now
+ok_is c = ap (λ (q : Request). q.ok) c.asked-request.ensures ∙ asked_test _
 
 -- the request that is accepted
-ok : (c : tie.Else2) → request_ok (entry c.before.before.before).args.numbers.now ≡ true
-ok c = sym (ok_is c.before.before.before) ∙ not-false _ c.if2.false
+ok : (c : tie.Else-not-request) → request_ok (entry c.before.before.before).args.numbers.now ≡ true
+ok c = sym (ok_is c.before.before.before) ∙ not-false _ c.if-not-request.false
 
-is : (c : tie.Else2) → let a = c.before.before.before in let n = (entry a).args.numbers.now in
-    a.asked.result ≡ record { ok = true; words = sheet_length n; ticks = tick_count n }
-is c = c.before.before.before.asked.ensures ∙ asked_ok _ (ok c)
+is : (c : tie.Else-not-request) → let a = c.before.before.before in let n = (entry a).args.numbers.now in
+    a.asked-request.result ≡ record { ok = true; words = sheet_length n; ticks = tick_count n }
+is c = c.asked-request.ensures ∙ asked_ok _ (ok c)
 
-words : (c : tie.Else2) → let a = c.before.before.before in a.asked.result.words ≡ sheet_length (entry a).args.numbers.now
+words : (c : tie.Else-not-request) → let a = c.before.before.before in a.asked-request.result.words ≡ sheet_length (entry a).args.numbers.now
 words c = ap (λ (q : Request). q.words) (is c)
 
-ticks : (c : tie.Else2) → let a = c.before.before.before in a.asked.result.ticks ≡ tick_count (entry a).args.numbers.now
+ticks : (c : tie.Else-not-request) → let a = c.before.before.before in a.asked-request.result.ticks ≡ tick_count (entry a).args.numbers.now
 ticks c = ap (λ (q : Request). q.ticks) (is c)
 
-within : (c : tie.Else2) → let a = c.before.before.before in let q = a.asked.result in
+within : (c : tie.Else-not-request) → let a = c.before.before.before in let q = a.asked-request.result in
     (q.words ≤ most_words) × (q.ticks ≤ most_ticks) × (2 + q.words + q.ticks ≡ length (entry a).args.numbers.now)
 within c = let h = accepted _ (ok c) in omega (arith, words c, ticks c, h.sheet, h.ticks, h.whole)
 
-asked-requires : tie.Need-asked-requires
+asked-requires : tie.Need-asked-request-requires
 asked-requires c κs = search rules
 
-only-refused-requires : tie.Need-only-refused-requires
+only-refused-requires : tie.Need-only_refused-requires
 only-refused-requires c κs = search rules
 
-returns : tie.Need-returns
+returns : tie.Need-returns-then-not-good
 returns c =
     let j = c.before in
-    let bad = ⊎_elim (λ w. inl (not-true _ w.taken)) (λ w. inr (sym (ok_is j.before) ∙ not-true _ w.2.taken)) j.if1.branch in
-    c.only-refused.ensures _ ∙ answer_not _ _ _ bad
+    let bad = ⊎_elim (λ w. inl (not-true _ w.if-not-good.true-raw)) (λ w. inr (sym (ok_is j.before) ∙ not-true _ w.if-not-request.true)) j.then-not-good.branch-raw in
+    c.only_refused.ensures _ ∙ answer_not _ _ _ bad
 
-add-compile-and-run : tie.Need-overflow-add-compile-and-run
+add-compile-and-run : tie.Need-overflow_add-words
 add-compile-and-run c = let h = within c in omega arith
 
-sub-compile-and-run : tie.Need-overflow-sub-compile-and-run
+sub-compile-and-run : tie.Need-slice_bounds-compile_and_run-count
 sub-compile-and-run c = search rules
 
-part-compile-and-run-start : tie.Need-slice-bounds-compile-and-run-start
+part-compile-and-run-start : tie.Need-slice_bounds-compile_and_run-start
 part-compile-and-run-start c = search rules
 
-part-compile-and-run-end : tie.Need-slice-bounds-compile-and-run-end
+part-compile-and-run-end : tie.Need-slice_bounds-compile_and_run-end
 part-compile-and-run-end c = let h = within c in omega arith
 
-add-compile-and-run-2 : tie.Need-overflow-add-compile-and-run-2
+add-compile-and-run-2 : tie.Need-overflow_add-words-2
 add-compile-and-run-2 c = let h = within c.before in omega arith
 
-add-compile-and-run-3 : tie.Need-overflow-add-compile-and-run-3
+add-compile-and-run-3 : tie.Need-overflow_add-words-3
 add-compile-and-run-3 c = let h = within c.before in omega arith
 
-add-compile-and-run-4 : tie.Need-overflow-add-compile-and-run-4
+add-compile-and-run-4 : tie.Need-overflow_add-words-4
 add-compile-and-run-4 c = let h = within c.before in omega arith
 
-mul-compile-and-run : tie.Need-overflow-mul-compile-and-run
+mul-compile-and-run : tie.Need-offset_bounds-numbers-words
 mul-compile-and-run c = let h = within c.before in omega arith
 
-sub-compile-and-run-2 : tie.Need-overflow-sub-compile-and-run-2
+sub-compile-and-run-2 : tie.Need-slice_bounds-compile_and_run-count-2
 sub-compile-and-run-2 c = search rules
 
-part-compile-and-run-start-2 : tie.Need-slice-bounds-compile-and-run-start-2
+part-compile-and-run-start-2 : tie.Need-slice_bounds-compile_and_run-start-2
 part-compile-and-run-start-2 c = search rules
 
-part-compile-and-run-end-2 : tie.Need-slice-bounds-compile-and-run-end-2
+part-compile-and-run-end-2 : tie.Need-slice_bounds-compile_and_run-end-2
 part-compile-and-run-end-2 c = let h = within c.before in omega arith
 
-compile-and-run-requires : tie.Need-compile-and-run-requires
+compile-and-run-requires : tie.Need-compile_and_run-requires
 compile-and-run-requires c κs = search rules
 
-same_length : tie.Need-same-length
+same_length : tie.Need-shape_of-out
 same_length c = search rules
 
-returns-2 : tie.Need-returns-2
+returns-2 : tie.Need-returns
 returns-2 c =
     let call = c.before.before in
     let e = call.before.before.before.before in
-    call.compile-and-run.ensures
+    call.compile_and_run.ensures
     ∙ rw (sheet_part _ _ (words e), inputs_part _ _ (words e) _ (ticks e))
-    (answer_served _ _ _ (not-false _ e.before.before.if1.false) (ok e))
+    (answer_served _ _ _ (not-false _ e.if-not-good.false-raw) (ok e))
 
-pub answer-to-spec : {M : Type 1} → statement M
-answer-to-spec =
+pub answer_to_spec : {M : Type 1} → statement M
+answer_to_spec =
     tie.close
     (tie.spec asked-requires only-refused-requires returns add-compile-and-run sub-compile-and-run
     part-compile-and-run-start part-compile-and-run-end add-compile-and-run-2 add-compile-and-run-3

@@ -14,63 +14,63 @@ use Rattle.printout.proofs.answer.compile_and_run.Statement.{statement}
 use Rattle.printout.proofs.answer.compile_and_run.Tie as tie
 
 -- what compile left, as the meaning has it
-abbrev left : tie.After-compile → Compiled
-left c = compiled_of c.compile.result c.compile.new.1.0 c.compile.new.1.1.0
+abbrev left : tie.After-compile-c → Compiled
+left c = compiled_of c.compile-c.result c.compile-c.new.table c.compile-c.new.work
 
-made : (c : tie.After-compile) → left c ≡ compiled_sheet c.before.before.before.before.before.before.args.sheet.now
+made : (c : tie.After-compile-c) → left c ≡ compiled_sheet c.args.sheet.now
 unfolding compiled_sheet
-made c = c.compile.ensures
+made c = c.compile-c.ensures
 
-fits : (c : tie.Else1) → let call = c.before.before.before.before.compile in call.result.table_length ≤ length call.new.1.0
+fits : (c : tie.Else-number-ne0) → let call = c.compile-c in call.result.table_length ≤ length call.new.table
 fits c =
     let o = c.before.before.before.before in
-    omega (arith, c.before.before.before.table2.given, table_fits _ [] [] (left o) (made o))
+    omega (arith, c.table-2-1.given, table_fits _ [] [] (left o) (made o))
 
-slice-aggregate-compile : tie.Need-slice-aggregate-compile
+slice-aggregate-compile : tie.Need-slice_bounds-compile-end
 slice-aggregate-compile c = search rules
 
-slice-aggregate-compile-2 : tie.Need-slice-aggregate-compile-2
+slice-aggregate-compile-2 : tie.Need-slice_bounds-compile-end-2
 slice-aggregate-compile-2 c = search rules
 
-compile-requires : tie.Need-compile-requires
+compile-requires : tie.Need-compile-c-requires
 compile-requires c κs = search rules
 
 number-requires : tie.Need-number-requires
 number-requires c κs = search rules
 
-number-requires-2 : tie.Need-number-requires-2
+number-requires-2 : tie.Need-number-requires-then-number-ne0
 number-requires-2 c κs = search rules
 
-only-refused-requires : tie.Need-only-refused-requires
+only-refused-requires : tie.Need-only_refused-requires
 only-refused-requires c κs = search rules
 
-returns : tie.Need-returns
+returns : tie.Need-returns-then-number-ne0
 returns c =
     let n = c.before.before.before in
     let o = n.before.before.before in
-    c.only-refused.ensures _
-    ∙ rw c.before.number2.ensures (answer_refused _ _ _ (left o) (made o) (λ z. c.before.before.if1.true (n.number.ensures ∙ z)))
+    c.only_refused.ensures _
+    ∙ rw c.number-then-number-ne0.ensures (answer_refused _ _ _ (left o) (made o) (λ z. c.if-number-ne0.true (n.number.ensures ∙ z)))
 
-array-share-prefix-table : tie.Need-array-share-prefix-table
+array-share-prefix-table : tie.Need-slice_bounds-table-end
 array-share-prefix-table c = fits c
 
-slice-aggregate-run-table : tie.Need-slice-aggregate-run-table
+slice-aggregate-run-table : tie.Need-slice_bounds-run_table-end
 slice-aggregate-run-table c = sym (length-take-le _ _ (fits c.before))
 
-run-table-requires : tie.Need-run-table-requires
+run-table-requires : tie.Need-run_table-requires
 run-table-requires c κs = search rules
 
-same_length : tie.Need-same-length
+same_length : tie.Need-shape_of-out
 same_length c = search rules
 
-returns-2 : tie.Need-returns-2
+returns-2 : tie.Need-returns
 returns-2 c =
     let e = c.before.before.before.before.before in
     let o = e.before.before.before.before in
-    c.before.before.run-table.ensures ∙ answer_ran _ _ _ (left o) (made o) (sym e.before.number.ensures ∙ e.if1.false)
+    c.run_table.ensures ∙ answer_ran _ _ _ (left o) (made o) (sym e.number.ensures ∙ e.if-number-ne0.false)
 
-pub compile-and-run-spec : {M : Type 1} → statement M
-compile-and-run-spec =
+pub compile_and_run_spec : {M : Type 1} → statement M
+compile_and_run_spec =
     tie.close
     (tie.spec slice-aggregate-compile slice-aggregate-compile-2 compile-requires number-requires number-requires-2
     only-refused-requires returns array-share-prefix-table slice-aggregate-run-table run-table-requires same_length

@@ -8,5 +8,5 @@ returns : tie.Need-returns
 unfolding only_refused
 returns c = λ out. refl
 
-pub only-refused-spec : {M : Type 1} → statement M
-only-refused-spec = tie.close (tie.spec returns)
+pub only_refused_spec : {M : Type 1} → statement M
+only_refused_spec = tie.close (tie.spec returns)

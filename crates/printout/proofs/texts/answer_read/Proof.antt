@@ -12,40 +12,40 @@ use Rattle.printout.proofs.TextLaws.{text_answered}
 use Rattle.printout.proofs.texts.answer_read.Statement.{statement}
 use Rattle.printout.proofs.texts.answer_read.Tie as tie
 
-with-gap-requires : tie.Need-with-gap-requires
+with-gap-requires : tie.Need-with_gap-y-requires
 with-gap-requires c κs = search rules
 
-counted : (c : tie.After-slice-known3) → c.before.before.with-gap.result.count ≤ length c.before.before.with-gap.new.1.0
+counted : (c : tie.After-slice_known-3-1) → c.with_gap-y.result.count ≤ length c.with_gap-y.new.words
 counted c =
     let s = c.before.before.before.before.before.before in
-    let g = c.before.before.with-gap in
+    let g = c.with_gap-y in
     let x = reading_of s.args.x s.args.numbers.now in
-    let f : Fits most_numbers (reading_of g.result g.new.1.0) = rw g.ensures (fits_gap most_numbers x s.requires) in
+    let f : Fits most_numbers (reading_of g.result g.new.words) = rw g.ensures (fits_gap most_numbers x s.requires) in
     omega (arith, f.words, f.count)
 
-slice-reshare-prefix-answer-to : tie.Need-slice-reshare-prefix-answer-to
+slice-reshare-prefix-answer-to : tie.Need-slice_bounds-answer_to-end
 slice-reshare-prefix-answer-to c = counted c
 
-slice-aggregate-answer-to : tie.Need-slice-aggregate-answer-to
-slice-aggregate-answer-to c = sym (length-take-le _ _ (counted c.before))
+slice-aggregate-answer-to : tie.Need-slice_bounds-answer_to-end-2
+slice-aggregate-answer-to c = sym (length-take-le _ _ (counted c))
 
-answer-to-requires : tie.Need-answer-to-requires
+answer-to-requires : tie.Need-answer_to-requires
 answer-to-requires c κs = search rules
 
-same_length : tie.Need-same-length
+same_length : tie.Need-shape_of-numbers
 same_length c = search rules
 
-same-length-2 : tie.Need-same-length-2
+same-length-2 : tie.Need-shape_of-out
 same-length-2 c = search rules
 
 returns : tie.Need-returns
 returns c =
     let a = c.before.before in
-    let g = a.before.before.before.before.before.with-gap in
-    text_answered _ _ (reading_of g.result g.new.1.0) (record { answer = a.answer-to.result; out = a.answer-to.new.1.1.0 }) g.ensures a.answer-to.ensures
+    let g = a.with_gap-y in
+    text_answered _ _ (reading_of g.result g.new.words) (record { answer = a.answer_to.result; out = a.answer_to.new.out }) g.ensures a.answer_to.ensures
 
-pub answer-read-spec : {M : Type 1} → statement M
-answer-read-spec =
+pub answer_read_spec : {M : Type 1} → statement M
+answer_read_spec =
     tie.close
     (tie.spec with-gap-requires slice-reshare-prefix-answer-to slice-aggregate-answer-to answer-to-requires
     same_length same-length-2 returns)
