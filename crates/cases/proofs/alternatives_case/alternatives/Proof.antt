@@ -5,17 +5,17 @@ use borrow.Author.Rules.{rules}
 use Rattle.cases.proofs.alternatives_case.alternatives.Statement.{statement}
 use Rattle.cases.proofs.alternatives_case.alternatives.Tie as tie
 
-slice-aggregate-run-numbered : tie.Need-slice-aggregate-run-numbered
+slice-aggregate-run-numbered : tie.Need-slice_bounds-run_numbered-end
 slice-aggregate-run-numbered c = simp length-take (search rules)
 
-slice-aggregate-run-numbered-2 : tie.Need-slice-aggregate-run-numbered-2
+slice-aggregate-run-numbered-2 : tie.Need-slice_bounds-run_numbered-end-2
 slice-aggregate-run-numbered-2 c = simp length-take (search rules)
 
-slice-aggregate-run-numbered-3 : tie.Need-slice-aggregate-run-numbered-3
+slice-aggregate-run-numbered-3 : tie.Need-slice_bounds-run_numbered-end-3
 slice-aggregate-run-numbered-3 c = simp length-take (search rules)
 
-pub alternatives-spec : {M : Type 1} → statement M
-alternatives-spec =
+pub alternatives_spec : {M : Type 1} → statement M
+alternatives_spec =
     tie.close
     (tie.spec
     (λ c. search rules)

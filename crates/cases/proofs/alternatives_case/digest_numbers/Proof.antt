@@ -6,14 +6,14 @@ use lib.ListN.{length}
 use Rattle.cases.proofs.alternatives_case.digest_numbers.Statement.{statement}
 use Rattle.cases.proofs.alternatives_case.digest_numbers.Tie as tie
 
-abbrev invariant_loop : tie.invariant-loop
+abbrev invariant_loop : tie.invariant-loop-i
 invariant_loop numbers h₀ i₀ h i = h < 4294967291
 
-abbrev decreases_loop : tie.decreases-loop
+abbrev decreases_loop : tie.decreases-loop-i
 decreases_loop numbers h₀ i₀ h i = length numbers - i
 
-pub digest-numbers-spec : {M : Type 1} → statement M
-digest-numbers-spec =
+pub digest_numbers_spec : {M : Type 1} → statement M
+digest_numbers_spec =
     tie.close
     (tie.spec
     invariant_loop
