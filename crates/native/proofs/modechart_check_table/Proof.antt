@@ -6,14 +6,14 @@ use borrow.Author.Rules.{rules}
 use Rattle.native.proofs.modechart_check_table.Statement.{statement}
 use Rattle.native.proofs.modechart_check_table.Tie as tie
 
-table-ok-requires : tie.Need-table-ok-requires
+table-ok-requires : tie.Need-table_ok-requires
 table-ok-requires c κs = search rules
 
-returns : tie.Need-returns
-returns c = sym (ap (λ (b : Bool). cond {A = ℕ} b 0 15) (sym c.before.table-ok.ensures ∙ c.if1.true))
+returns : tie.Need-returns-then-table_ok
+returns c = sym (ap (λ (b : Bool). cond {A = ℕ} b 0 15) (sym c.table_ok.ensures ∙ c.if-table_ok.true))
 
-returns-2 : tie.Need-returns-2
-returns-2 c = sym (ap (λ (b : Bool). cond {A = ℕ} b 0 15) (sym c.before.table-ok.ensures ∙ c.if1.false))
+returns-2 : tie.Need-returns
+returns-2 c = sym (ap (λ (b : Bool). cond {A = ℕ} b 0 15) (sym c.table_ok.ensures ∙ c.if-table_ok.false))
 
-pub modechart-check-table-spec : {M : Type 1} → statement M
-modechart-check-table-spec = tie.close (tie.spec table-ok-requires returns returns-2)
+pub modechart_check_table_spec : {M : Type 1} → statement M
+modechart_check_table_spec = tie.close (tie.spec table-ok-requires returns returns-2)

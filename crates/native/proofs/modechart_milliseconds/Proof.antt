@@ -6,19 +6,19 @@ use borrow.Author.Rules.{rules}
 use Rattle.native.proofs.modechart_milliseconds.Statement.{statement}
 use Rattle.native.proofs.modechart_milliseconds.Tie as tie
 
-in-ticks-requires : tie.Need-in-ticks-requires
+in-ticks-requires : tie.Need-in_ticks-requires
 in-ticks-requires c κs = search rules
 
 number-requires : tie.Need-number-requires
 number-requires c κs = search rules
 
-same_length : tie.Need-same-length
+same_length : tie.Need-shape_of-results
 same_length c = search rules
 
 returns : tie.Need-returns
 returns c =
-    let converted = c.before.before.before.in_ticks_lem in
-    ap (λ (e : ℕ). record { refusal = e; results = converted.new.1.1.0 }) c.number.ensures ∙ converted.ensures
+    let converted = c.in_ticks in
+    ap (λ (e : ℕ). record { refusal = e; results = converted.new.results }) c.number.ensures ∙ converted.ensures
 
-pub modechart-milliseconds-spec : {M : Type 1} → statement M
-modechart-milliseconds-spec = tie.close (tie.spec in-ticks-requires number-requires same_length returns)
+pub modechart_milliseconds_spec : {M : Type 1} → statement M
+modechart_milliseconds_spec = tie.close (tie.spec in-ticks-requires number-requires same_length returns)

@@ -12,37 +12,37 @@ use Rattle.native.proofs.modechart_sheet_run.Statement.{statement}
 use Rattle.native.proofs.modechart_sheet_run.Tie as tie
 
 -- places: from the run back to the state read, to where enough words are lent, to the entry
-abbrev read : tie.After-run → tie.After-from-words
+abbrev read : tie.After-run-ran → tie.After-from_words
 read c = c.before.before.before
 
-abbrev lent : tie.After-run → tie.Else2
-lent c = (read c).before.before
+abbrev lent : tie.After-run-ran → tie.Else-state-lt-STATE_WORDS
+lent c = (read c).before
 
-abbrev entry : tie.Else2 → tie.Start
+abbrev entry : tie.Else-state-lt-STATE_WORDS → tie.Start
 entry c = c.before.before.before.before.before.before.before.before
 
-returns : tie.Need-returns
+returns : tie.Need-returns-then-info-lt3
 returns c =
-    let a = c.before.before.before.before.before.before.before.args in
+    let a = c.args in
     sheet_nothing a.sheet.now a.state.now a.inputs.now a.out.now a.numbers.now a.info.now
-    (⊎_elim (λ w. inl w.taken) (λ w. inr w.1.taken) c.if1.branch)
+    (⊎_elim (λ w. inl w.if-info-lt3.true) (λ w. inr w.if-state-lt-STATE_WORDS.true-raw) c.then-info-lt3.branch-raw)
 
-slice-write-info-2 : tie.Need-slice-write-info-2
-slice-write-info-2 c = simp length-set (omega (arith, (lent c.before.before.before.before).before.if1.false))
+slice-write-info-2 : tie.Need-bounds-info-1
+slice-write-info-2 c = simp length-set (omega (arith, (lent c.before.before.before.before).if-info-lt3.false))
 
-returns-2 : tie.Need-returns-2
+returns-2 : tie.Need-returns
 returns-2 c =
     let put = c.before.before.before in
-    let at = put.before.before.before.before.before.before in
+    let at = put.before.before.before.before.before.before.before in
     let a = (entry (lent at)).args in
-    let r = at.run.result in
-    sheet_answered a.sheet.now a.state.now a.inputs.now a.out.now a.numbers.now a.info.now (lent at).before.if1.false
-    (ltb-false (length a.state.now) state_words (lent at).if2.false)
-    (record { run = ran_of r at.run.new.1.1.1.0; numbers = at.run.new.1.1.1.1.0 }) (state_of (read at).from-words.result) (read at).from-words.ensures
-    at.run.ensures.0 r.rounds.0 r.rounds.1 refl at.run.ensures.2 c.number.result put.put-state.new.0 c.number.ensures put.put-state.ensures
+    let r = at.run-ran.result in
+    sheet_answered a.sheet.now a.state.now a.inputs.now a.out.now a.numbers.now a.info.now (lent at).if-info-lt3.false
+    (ltb-false (length a.state.now) state_words (lent at).if-state-lt-STATE_WORDS.false-raw)
+    (record { run = ran_of r at.run-ran.new.out; numbers = at.run-ran.new.numbers }) (state_of (read at).from_words.result) (read at).from_words.ensures
+    at.run-ran.ensures.0 r.rounds.0 r.rounds.1 refl at.run-ran.ensures.2 c.number.result put.put_state.new.words c.number.ensures put.put_state.ensures
 
-pub modechart-sheet-run-spec : {M : Type 1} → statement M
-modechart-sheet-run-spec =
+pub modechart_sheet_run_spec : {M : Type 1} → statement M
+modechart_sheet_run_spec =
     tie.close
     (tie.spec
     returns

@@ -8,11 +8,11 @@ use Rattle.native.proofs.CallLaws.{sets_front}
 use Rattle.native.proofs.put_reason.Statement.{statement}
 use Rattle.native.proofs.put_reason.Tie as tie
 
-slice-write-info-2 : tie.Need-slice-write-info-2
+slice-write-info-2 : tie.Need-bounds-info-1
 slice-write-info-2 c = simp length-set (omega (arith, c.requires))
 
 returns : tie.Need-returns
 returns c = (refl, sets_front (c.args.reason ∷ c.args.first ∷ c.args.second ∷ []) c.args.info.now c.requires)
 
-pub put-reason-spec : {M : Type 1} → statement M
-put-reason-spec = tie.close (tie.spec (λ c. search rules) slice-write-info-2 (λ c. search rules) (λ c. search rules) returns)
+pub put_reason_spec : {M : Type 1} → statement M
+put_reason_spec = tie.close (tie.spec (λ c. search rules) slice-write-info-2 (λ c. search rules) (λ c. search rules) returns)
