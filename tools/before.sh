@@ -10,10 +10,10 @@ if [ ! -f "$before/lib/libbefore.a" ]; then
     rm -rf "$before"
     git clone -q . "$before/main"
     git -C "$before/main" checkout -q "$commit"
-    (cd "$before/main" && rt staticlib native) > "$before/built" 2>&1
+    (cd "$before/main/crates/native" && rt lib) > "$before/built" 2>&1
     mkdir "$before/lib"
-    objcopy --redefine-syms=<(nm "$before/main/target/staticlib/libnative.a" | awk '$2 == "T" { print $3, "before_" $3 }') \
-        "$before/main/target/staticlib/libnative.a" "$before/lib/libbefore.a"
+    objcopy --redefine-syms=<(nm "$before/main/crates/native/out/libnative.a" | awk '$2 == "T" { print $3, "before_" $3 }') \
+        "$before/main/crates/native/out/libnative.a" "$before/lib/libbefore.a"
     tools/align.sh "$before/lib/libbefore.a"
 fi
 echo "$before/lib"

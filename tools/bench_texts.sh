@@ -1,5 +1,5 @@
 #!/usr/bin/env bash
-# Runs the bench program (target/bin/bench) on a few texts and compares what it prints.
+# Runs the bench program (crates/bench/out/bench, as `rt ci` builds it) on a few texts and compares what it prints.
 set -eu
 cd "$(dirname "$0")/.."
 sheet="24 3 1 2 1 0 1 0 0 0 0 0 0 16 4 20 4 1 2 1 0 2 1 0 2"
@@ -9,7 +9,7 @@ failed=0
 # Of a text, by its name: the lines that are to be printed.
 expect() {
     local name=$1 text=$2 lines=$3
-    if [[ "$(printf "$text" | target/bin/bench; echo .)" != "$lines"$'\n'. ]]; then
+    if [[ "$(printf "$text" | crates/bench/out/bench; echo .)" != "$lines"$'\n'. ]]; then
         echo "bench_texts: $name: not what is to be printed"
         failed=1
     fi

@@ -7,8 +7,8 @@ set -eu
 cd "$(dirname "$0")/.."
 export NATIVE_DIR=$PWD/target/timing CARGO_TARGET_DIR=$PWD/target/cargo
 mkdir -p "$NATIVE_DIR"
-rt staticlib native > target/timing/staticlib.log 2>&1 || { cat target/timing/staticlib.log; exit 1; }
-cp target/staticlib/libnative.a "$NATIVE_DIR"
+(cd crates/native && rt lib) > target/timing/lib.log 2>&1 || { cat target/timing/lib.log; exit 1; }
+cp crates/native/out/libnative.a "$NATIVE_DIR"
 tools/align.sh "$NATIVE_DIR/libnative.a"
 cd tools/timing
 exec cargo run --quiet --offline --release -- "${1:-1}" ${2:-}

@@ -1,4 +1,4 @@
-// The archive of the crate `native`, made by `rt staticlib native`; with BEFORE_DIR that of an earlier commit, with MODEL_DIR that
+// The archive of the crate `native`, made by `rt lib` in its folder; with BEFORE_DIR that of an earlier commit, with MODEL_DIR that
 // of the model too.
 fn also(folder: &str, archive: &str, cfg: &str) {
     println!("cargo:rerun-if-env-changed={}", folder);
