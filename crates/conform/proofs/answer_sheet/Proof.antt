@@ -5,7 +5,7 @@ use borrow.Author.Rules.{rules}
 use Rattle.conform.proofs.answer_sheet.Statement.{statement}
 use Rattle.conform.proofs.answer_sheet.Tie as tie
 
-sheet-run-requires : tie.Need-sheet-run-requires
+sheet-run-requires : tie.Need-sheet_run-requires
 sheet-run-requires c κs = search rules
 
 next-requires : tie.Need-next-requires
@@ -14,62 +14,62 @@ next-requires c κs = search rules
 why-requires : tie.Need-why-requires
 why-requires c κs = search rules
 
-next-requires-2 : tie.Need-next-requires-2
+next-requires-2 : tie.Need-next-requires-in-11
 next-requires-2 c κs = search rules
 
 masks-requires : tie.Need-masks-requires
 masks-requires c κs = search rules
 
-next-requires-3 : tie.Need-next-requires-3
+next-requires-3 : tie.Need-next-requires-in-13
 next-requires-3 c κs = search rules
 
-slice-reshare-prefix-accept-table : tie.Need-slice-reshare-prefix-accept-table
+slice-reshare-prefix-accept-table : tie.Need-slice_bounds-accept_table-end
 slice-reshare-prefix-accept-table c = search rules
 
-slice-aggregate-accept-table : tie.Need-slice-aggregate-accept-table
+slice-aggregate-accept-table : tie.Need-slice_bounds-accept_table-end-in-14
 slice-aggregate-accept-table c = simp length-take (search rules)
 
-accept-table-requires : tie.Need-accept-table-requires
+accept-table-requires : tie.Need-accept_table-requires
 accept-table-requires c κs = search rules
 
-next-requires-4 : tie.Need-next-requires-4
+next-requires-4 : tie.Need-next-requires-in-14
 next-requires-4 c κs = search rules
 
 alternatives-requires : tie.Need-alternatives-requires
 alternatives-requires c κs = search rules
 
-next-requires-5 : tie.Need-next-requires-5
+next-requires-5 : tie.Need-next-requires-in-15
 next-requires-5 c κs = search rules
 
-answer-table-requires : tie.Need-answer-table-requires
+answer-table-requires : tie.Need-answer_table-requires
 answer-table-requires c κs = search rules
 
-returns : tie.Need-returns
+returns : tie.Need-returns-in-2
 returns c = search (rules, within_le)
 
-returns-2 : tie.Need-returns-2
+returns-2 : tie.Need-returns-in-11
 returns-2 c = search (rules, within_le)
 
-returns-3 : tie.Need-returns-3
+returns-3 : tie.Need-returns-in-13
 returns-3 c = search (rules, within_le)
 
-same_length : tie.Need-same-length
+same_length : tie.Need-shape_of-table-in-14
 same_length c = search rules
 
-returns-4 : tie.Need-returns-4
+returns-4 : tie.Need-returns-in-14
 returns-4 c = search (rules, within_le)
 
-returns-5 : tie.Need-returns-5
+returns-5 : tie.Need-returns-in-15
 returns-5 c = search (rules, within_le)
 
-same-length-2 : tie.Need-same-length-2
+same-length-2 : tie.Need-shape_of-table-in_default
 same-length-2 c = search rules
 
-returns-6 : tie.Need-returns-6
+returns-6 : tie.Need-returns-in_default
 returns-6 c = search rules
 
-pub answer-sheet-spec : {M : Type 1} → statement M
-answer-sheet-spec =
+pub answer_sheet_spec : {M : Type 1} → statement M
+answer_sheet_spec =
     tie.close
     (tie.spec sheet-run-requires next-requires why-requires next-requires-2 masks-requires next-requires-3
     slice-reshare-prefix-accept-table slice-aggregate-accept-table accept-table-requires next-requires-4
