@@ -7,6 +7,11 @@ pub mod Invariant
 pub mod LookSteps
 pub mod TurnSteps
 pub mod ServingLaws
+pub mod Again
+pub mod Last
+pub mod Local
+pub mod Offset
+pub mod BigLiteral
 pub mod ScheduleCases
 pub mod PartLaws
 pub mod BatchLaws
