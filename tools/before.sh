@@ -5,7 +5,7 @@
 set -eu
 cd "$(dirname "$0")/.."
 commit=$(git rev-parse --short "$1")
-before=$PWD/target/before/$commit
+before=${TMPDIR:-/tmp}/modechart-before/$commit
 if [ ! -f "$before/lib/libbefore.a" ]; then
     rm -rf "$before"
     git clone -q . "$before/main"

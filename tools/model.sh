@@ -3,9 +3,8 @@
 #     MODEL_DIR=$(tools/model.sh) tools/timing.sh
 set -eu
 cd "$(dirname "$0")/.."
-model=$PWD/target/model
+model=${TMPDIR:-/tmp}/modechart-model
 rm -rf "$model"
-mkdir -p target
 cp -r ../shared/patterns/code "$model"
 ROOT=$model "$model/tools/native_lib.sh" "$model/lib" > "$model/built" 2>&1
 tools/align.sh "$model/lib/libmc.a"

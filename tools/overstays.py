@@ -1,6 +1,6 @@
 """Ticks of our operations, called by their C names, judged by the outside reading of Ask 11 (`overstays` of shared/oracle).
 
-    rt staticlib native && python3 tools/overstays.py [SEED [CHARTS]]
+    (cd crates/native && rt lib) && python3 tools/overstays.py [SEED [CHARTS]]
 
 On random charts that compile accepts, from power-on: the sheet run and the table run one tick a call, the table run with several
 ticks a call, and two stations under small allowances over many calls, each station by its own ticks. The last line says how many
@@ -25,8 +25,8 @@ STATE_WORDS, STATION_WORDS = 97, 103
 
 
 def library():
-    """The archive of `rt staticlib native` as a library that Python can load."""
-    archive = os.path.join(HERE, "..", "target", "staticlib", "libnative.a")
+    """The archive of the crate `native` as a library that Python can load."""
+    archive = os.path.join(HERE, "..", "crates", "native", "out", "libnative.a")
     with tempfile.TemporaryDirectory() as folder:
         path = os.path.join(folder, "native.so")
         subprocess.run(["gcc", "-shared", "-o", path, "-Wl,--whole-archive", archive, "-Wl,--no-whole-archive"], check=True)

@@ -123,8 +123,7 @@ fn note_served(info: &mut [u64], served: Served) -> u32
     number(why)
 }
 
-// Serves the first stations of an array, which is returned; the refusal and the allowance spent go into `info`. Whoever calls it needs
-// no walk by hand.
+// Serves the first stations of an array, which is returned; the refusal and the allowance spent go into `info`.
 fn serve_listed(
     list: [Station; 65],
     count: usize,

@@ -1,6 +1,6 @@
 -- What the contract of `serve` asks of a caller, which is nothing, and what it tells: the equation that the theorems of its calls rest
--- on. `serve` is proved by hand, and the check makes no `Reads` for it; so `Asked` and `Learnt` are made here, as there, by the logic's
--- reading of the clauses that the check makes of the source (`serve.clauses`). Assumes nothing.
+-- on. `Asked` and `Learnt` are made here by the logic's reading of the clauses that the check makes of the source (`serve.clauses`).
+-- Assumes nothing.
 use mathlib.Core.Path.{◌≡◌, refl}
 use base.Logic.{emp}
 use contract.Lifetimes.{Lfts}
