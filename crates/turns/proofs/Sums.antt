@@ -1,7 +1,7 @@
 -- The ticks of all stations and the ticks left sum to the allowance; passes end. Assumes nothing.
 use mathlib.Core.Path.{◌≡◌, refl, sym, ap, ap₂, ◌∙◌, subst}
 use mathlib.Core.Logic.{◌⊎◌, inl, inr}
-use mathlib.Core.Bool.{Bool, true, false, not, ◌&&◌, cond, and-false}
+use mathlib.Core.Bool.{Bool, true, false, ◌&&◌, cond, and-false}
 use mathlib.Core.List.{List}
 use Prim.Native.Nat.{ℕ, zero, suc, ◌+◌, ◌-◌, ◌*◌, ◌≤◌, ◌<◌, zero-le}
 use native.Mathlib.Nat.{le_refl, le_trans, not-suc-le-zero, eq-or-lt_of_le, le_of_suc-le-suc, suc-mul}
@@ -9,7 +9,7 @@ use native.Mathlib.Omega.{arith}
 use lib.Dec.{eqb, ltb}
 use borrow.Author.Tests.{eqb-true, eqb-false, ltb-true, ltb-false, lt-ltb, ne_eqb}
 use Rattle.sets.proofs.Quantifiers.{some_none, some-false}
-use Rattle.meaning.specs.Stations.{Station, stopped, has_work, Standing, station_at, station_count, some_work, after_stop, after_tick, turn, pass, passes, all_passes}
+use Rattle.meaning.specs.Stations.{Station, stopped, has_work, Standing, station_at, station_count, some_work, after_stop, after_tick, pass, passes, all_passes}
 use Rattle.meaning.specs.Lists.{sum_to}
 use Rattle.turns.proofs.Turns.{refusal_now, Step, idles, serves, halts, step_other, tick_own, stop_own, pass_ind, serve_keeps}
 

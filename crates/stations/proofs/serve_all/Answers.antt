@@ -1,5 +1,5 @@
 -- `stations::serve_all` meets its contract, by the laws of `Serves`.
-use Rattle.stations.proofs.ServingLaws.{serves_start, serves_ready, serves_step, serves_less, serves_end}
+use Rattle.stations.proofs.ServingLaws.{serves_start, serves_ready, serves_step, serves_less}
 use Rattle.stations.proofs.serve_all.Goals as goal
 
 pub loop-c-init : goal.loop-c-init

@@ -5,7 +5,7 @@ use native.Mathlib.Omega.{arith}
 use borrow.Author.Rules.{rules}
 use Rattle.rows.specs.Over.{over}
 use Rattle.meaning.specs.Lists.{row_from}
-use Rattle.meaning.specs.Sheet.{t_of, source}
+use Rattle.meaning.specs.Sheet.{t_of}
 use Rattle.meaning.proofs.SheetLaws.{sound, t_le, n_le, source-lt}
 use Rattle.sheet.proofs.Past.{head_read, record_read}
 use Rattle.reaction.specs.Plan.{from_part}

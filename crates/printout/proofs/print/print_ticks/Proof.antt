@@ -1,5 +1,4 @@
 -- `printout::print::print_ticks` is safe and ends: a line for each tick done, whose words lie within the output. Assumes nothing.
-use mathlib.Core.Path.{refl}
 use Prim.Native.Nat.{◌-◌, ◌≤◌}
 use native.Mathlib.Omega.{arith}
 use borrow.Author.Rules.{rules}

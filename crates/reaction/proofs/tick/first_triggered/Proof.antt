@@ -1,11 +1,5 @@
 -- `reaction::tick::first_triggered` meets its contract. Assumes nothing.
-use mathlib.Core.Path.{◌≡◌, ap, ◌∙◌}
-use Prim.Native.Nat.{ℕ, ◌+◌}
-use native.Mathlib.Omega.{arith}
-use lib.ListN.{get_or}
-use borrow.Author.Rules.{rules}
-use Rattle.reaction.specs.Plan.{hits_part, hits_of}
-use Rattle.reaction.proofs.TriggerLaws.{input_lt}
+use mathlib.Core.Path.{◌∙◌}
 use Rattle.reaction.proofs.StartLaws.{unsure_asks, first_words}
 use Rattle.reaction.proofs.tick.first_triggered.Statement.{statement}
 use Rattle.reaction.proofs.tick.first_triggered.Tie as tie

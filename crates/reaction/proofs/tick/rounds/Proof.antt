@@ -1,17 +1,16 @@
 -- `reaction::tick::rounds` meets its contract. The loop's invariant is `Left`: what is left of the rounds gives what all give. Assumes nothing.
-use mathlib.Core.Path.{◌≡◌, sym, ap, ◌∙◌}
-use Prim.Native.Nat.{ℕ, suc, ◌+◌, ◌-◌, ◌≤◌}
+use mathlib.Core.Path.{sym, ◌∙◌}
+use Prim.Native.Nat.{suc, ◌-◌, ◌≤◌}
 use native.Mathlib.Omega.{arith}
-use lib.ListN.{get_or}
 use borrow.Author.Rules.{rules}
 use Rattle.sets.proofs.Tests.{is_true, of_true}
 use Rattle.sets.proofs.Facts.{meet_e}
 use Rattle.meaning.specs.Sheet.{t_of}
 use Rattle.meaning.proofs.SheetLaws.{sound, t_le}
-use Rattle.reaction.specs.Plan.{hits_part, hits_of, mixed}
+use Rattle.reaction.specs.Plan.{mixed}
 use Rattle.reaction.specs.Rounds.{sets_of}
 use Rattle.reaction.proofs.RoundLaws.{triggered_small}
-use Rattle.reaction.proofs.TriggerLaws.{input_lt, mixed_asks}
+use Rattle.reaction.proofs.TriggerLaws.{mixed_asks}
 use Rattle.reaction.proofs.RoundLoop.{Left, left_start, left_none, round_still, round_ambiguous, round_restless, round_by}
 use Rattle.reaction.proofs.tick.rounds.Statement.{statement}
 use Rattle.reaction.proofs.tick.rounds.Tie as tie

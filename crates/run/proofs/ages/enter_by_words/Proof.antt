@@ -6,7 +6,6 @@ use borrow.Author.Rules.{rules}
 use Prim.Native.Nat.{ℕ, suc, ◌-◌, ◌*◌, ◌≤◌}
 use native.Mathlib.Omega.{arith}
 use lib.ListN.{length}
-use Rattle.sets.specs.Sets.{minus}
 use Rattle.meaning.proofs.ListLaws.{row_from-length}
 use Rattle.run.specs.Entries.{limits_by}
 use Rattle.run.proofs.EntryLaws.{limits_none, limits_first, not_found, found_turn}

@@ -5,7 +5,7 @@ use native.Mathlib.Omega.{arith}
 use lib.ListN.{get_or}
 use borrow.Author.Rules.{rules}
 use Rattle.sets.specs.Sets.{meet, highest}
-use Rattle.meaning.specs.Sheet.{n_of, source, target, meeting}
+use Rattle.meaning.specs.Sheet.{n_of, meeting}
 use Rattle.sheet.proofs.SheetTestLaws.{head_of, rooted_tree}
 use Rattle.sheet.proofs.ContainmentLaws.{meeting_words}
 use Rattle.sheet.proofs.hierarchy.meeting.Statement.{statement}
