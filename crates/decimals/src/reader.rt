@@ -3,7 +3,7 @@
 ghost use Rattle.std.specs.Prelude.{◌≡◌, List, ℕ, ◌≤◌};
 ghost use Rattle.decimals.specs.Reading.{reading_of};
 ghost use Rattle.decimals.specs.Reading.{begun, with_digit, with_gap, with_byte};
-ghost use Rattle.decimals.specs.Reading.{refused as refusedReading};
+ghost use Rattle.decimals.specs.Reading.{refused as refused_reading};
 
 // How far a text is read: whether it is one of decimals so far, whether digits are pending, the number that they make, and how many
 // numbers stand in the lent words.
@@ -27,7 +27,7 @@ pub fn start() -> Reader
 }
 
 fn refused(x: Reader) -> Reader
-    ensures { (words : List ℕ) → reading_of result words ≡ refusedReading (reading_of x words) }
+    ensures { (words : List ℕ) → reading_of result words ≡ refused_reading (reading_of x words) }
 {
     Reader {
         good: false,

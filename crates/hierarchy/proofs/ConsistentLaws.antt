@@ -53,9 +53,9 @@ module _ (s : List ℕ) (h : sheet_refusal s ≡ 0) where
   -- ---- a consistent set: all its modes below n, the root among them, every member as it must be
 
   module _ (x : ℕ) (l : x < 2 ^ 32) where
-    pub consistent-not_below : every_in 32 x (has (below (n_of s))) ≡ false → false ≡ consistent s x
+    pub consistent_not_below : every_in 32 x (has (below (n_of s))) ≡ false → false ≡ consistent s x
     unfolding consistent all_of
-    consistent-not_below e = rw (sym (every_in_below 32 (n_of s) x l) ∙ e)
+    consistent_not_below e = rw (sym (every_in_below 32 (n_of s) x l) ∙ e)
 
     pub consistent_rootless : has x 0 ≡ false → false ≡ consistent s x
     unfolding consistent all_of

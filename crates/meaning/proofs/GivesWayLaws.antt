@@ -44,9 +44,9 @@ one_gives_way s t u h n =
     q = meeting s u
 
 -- so one that is not another in conflict with t does not give way to t
-pub no_conflict-stays : (s : List ℕ) (t u : ℕ) → (not (eqb t u) && conflict s t u) ≡ false → gives_way s u t ≡ false
+pub no_conflict_stays : (s : List ℕ) (t u : ℕ) → (not (eqb t u) && conflict s t u) ≡ false → gives_way s u t ≡ false
 unfolding conflict gives_way strictly_contains
-no_conflict-stays s t u e =
+no_conflict_stays s t u e =
     is_false (not (eqb p q) && contains s p q) (λ g.
     subst T e (and_i (not (eqb t u)) (contains s p q || contains s q p)
     (not_T (eqb t u) (λ k. T_not (eqb p q) (and_l (not (eqb p q)) (contains s p q) g) (of_true (eq-eqb p q (ap (meeting s) (eqb→eq t u k))))))

@@ -20,7 +20,7 @@ use Rattle.meaning.proofs.Containment.{Within, contains_e, within_trans, strictl
 use Rattle.meaning.proofs.GivesWayLaws.{equal_stay_lem, gives_way_in_conflict_lem, conflict_is_equal_lem, eligible_or_gives_way_lem, eligible-stays, eligible_among}
 use Rattle.meaning.proofs.TickLaws.{triggered-lt, chosen_lt, triggered_e}
 use Rattle.meaning.proofs.Consistency.{cons_e, source_on, chosen_on, exited_within, exits_i, exiting_i}
-use Rattle.meaning.proofs.StateLaws.{no_reading-zero}
+use Rattle.meaning.proofs.StateLaws.{no_reading_zero_lem}
 
 eligible_or_gives : EligibleOrGivesWay
 unfolding EligibleOrGivesWay chosen
@@ -97,5 +97,5 @@ highest_level_first_lem =
       conflict_is_equal = conflict_is_equal_lem;
       eligible_or_gives_way = eligible_or_gives;
       gives_way_exited = gives_way_exited_lem;
-      no_reading_zero = no_reading-zero;
+      no_reading_zero = no_reading_zero_lem;
     }

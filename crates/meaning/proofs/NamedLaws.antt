@@ -114,11 +114,11 @@ module _ (s : List ℕ) where
   pub names_event : Sound s → (t e : ℕ) → t < t_of s → T (names s t e) → e < k_of s
   unfolding names term_ok
   names_event sd t e l h =
-      let ofEvent : ℕ → Bool = λ j. eqb (term_kind s t j) 1 || eqb (term_kind s t j) 2 in
-      let p = some_e (term_count s t) (λ j. ofEvent j && eqb (term_value s t j) e) h in
+      let of_event : ℕ → Bool = λ j. eqb (term_kind s t j) 1 || eqb (term_kind s t j) 2 in
+      let p = some_e (term_count s t) (λ j. of_event j && eqb (term_value s t j) e) h in
       let j = p.0 in
-      let is = eqb→eq (term_value s t j) e (and_r (ofEvent j) (eqb (term_value s t j) e) p.2) in
-      let k = and_l (ofEvent j) (eqb (term_value s t j) e) p.2 in
+      let is = eqb→eq (term_value s t j) e (and_r (of_event j) (eqb (term_value s t j) e) p.2) in
+      let k = and_l (of_event j) (eqb (term_value s t j) e) p.2 in
       subst (λ (v : ℕ). v < k_of s) is (event_lt t j (term_kind s t j) (or_e (eqb (term_kind s t j) 1) (eqb (term_kind s t j) 2) k) (sd.terms t l j p.1))
 
 -- ---- the modes are active, and what is active stays so

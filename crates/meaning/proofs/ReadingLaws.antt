@@ -25,12 +25,12 @@ use Rattle.meaning.proofs.SheetLaws.{Sound, t_le, terms_pos}
 use Rattle.meaning.proofs.TickLaws.{stayed_or_entered, not_due, Runs, running_e, running_i}
 
 -- the reading of t after a tick
-pub next_reading : (timers entered : ℕ) (source_of delayOf : ℕ → ℕ) (readings : List ℕ) (t : ℕ) → t < 64
-    → reading (next_readings timers entered source_of delayOf readings) t
-    ≡ cond (has timers t) (cond (has entered (source_of t)) (delayOf t) (reading readings t - 1)) 0
+pub next_reading : (timers entered : ℕ) (source_of delay_of : ℕ → ℕ) (readings : List ℕ) (t : ℕ) → t < 64
+    → reading (next_readings timers entered source_of delay_of readings) t
+    ≡ cond (has timers t) (cond (has entered (source_of t)) (delay_of t) (reading readings t - 1)) 0
 unfolding next_readings reading
-next_reading timers entered source_of delayOf readings t l =
-    let f : ℕ → ℕ = λ u. cond (has timers u) (cond (has entered (source_of u)) (delayOf u) (get_or readings u 0 - 1)) 0 in
+next_reading timers entered source_of delay_of readings t l =
+    let f : ℕ → ℕ = λ u. cond (has timers u) (cond (has entered (source_of u)) (delay_of u) (get_or readings u 0 - 1)) 0 in
     row_at 64 f t l
 
 -- readings after a tick agree where sources and delays do on the running timers
@@ -50,27 +50,27 @@ unfolding due_timers
 due_at timers readings t l = has-those 64 timers (λ u. eqb (reading readings u - 1) 0) t l
 
 -- each running reading is 1 to its delay and the others are 0: what the test says, and how it is shown
-module _ (timers : ℕ) (delayOf : ℕ → ℕ) (readings : List ℕ) where
+module _ (timers : ℕ) (delay_of : ℕ → ℕ) (readings : List ℕ) where
   abbrev fits : Bool → ℕ → Bool
-  fits b t = cond b (leb 1 (reading readings t) && leb (reading readings t) (delayOf t)) (eqb (reading readings t) 0)
+  fits b t = cond b (leb 1 (reading readings t) && leb (reading readings t) (delay_of t)) (eqb (reading readings t) 0)
 
-  fit_at : T (readings_ok timers delayOf readings) → (t : ℕ) → t < 64 → (b : Bool) → has timers t ≡ b → T (fits b t)
+  fit_at : T (readings_ok timers delay_of readings) → (t : ℕ) → t < 64 → (b : Bool) → has timers t ≡ b → T (fits b t)
   unfolding readings_ok
   fit_at h t l b e = subst (λ (c : Bool). T (fits c t)) e (every_e 64 (λ u. fits (has timers u) u) h t l)
 
-  pub readings_ok_running : T (readings_ok timers delayOf readings) → (t : ℕ) → t < 64 → T (has timers t)
-      → (1 ≤ reading readings t) × (reading readings t ≤ delayOf t)
+  pub readings_ok_running : T (readings_ok timers delay_of readings) → (t : ℕ) → t < 64 → T (has timers t)
+      → (1 ≤ reading readings t) × (reading readings t ≤ delay_of t)
   readings_ok_running h t l r =
       let k = fit_at h t l true (is_true (has timers t) r) in
       let a = leb 1 (reading readings t) in
-      let b = leb (reading readings t) (delayOf t) in
-      (leb→le 1 (reading readings t) (and_l a b k), leb→le (reading readings t) (delayOf t) (and_r a b k))
+      let b = leb (reading readings t) (delay_of t) in
+      (leb→le 1 (reading readings t) (and_l a b k), leb→le (reading readings t) (delay_of t) (and_r a b k))
 
-  pub readings_ok_zero : T (readings_ok timers delayOf readings) → (t : ℕ) → t < 64 → has timers t ≡ false → reading readings t ≡ 0
+  pub readings_ok_zero : T (readings_ok timers delay_of readings) → (t : ℕ) → t < 64 → has timers t ≡ false → reading readings t ≡ 0
   readings_ok_zero h t l e = eqb→eq (reading readings t) 0 (fit_at h t l false e)
 
-  pub readings_ok_i : ((t : ℕ) → t < 64 → T (has timers t) → (1 ≤ reading readings t) × (reading readings t ≤ delayOf t))
-      → ((t : ℕ) → t < 64 → has timers t ≡ false → reading readings t ≡ 0) → T (readings_ok timers delayOf readings)
+  pub readings_ok_i : ((t : ℕ) → t < 64 → T (has timers t) → (1 ≤ reading readings t) × (reading readings t ≤ delay_of t))
+      → ((t : ℕ) → t < 64 → has timers t ≡ false → reading readings t ≡ 0) → T (readings_ok timers delay_of readings)
   unfolding readings_ok
   readings_ok_i right zero = every_i 64 (λ t. fits (has timers t) t) (λ t l. go t l (has timers t) refl)
     where
@@ -78,7 +78,7 @@ module _ (timers : ℕ) (delayOf : ℕ → ℕ) (readings : List ℕ) where
       go t l true e =
           let k = right t l (of_true e) in
           let r = reading readings t in
-          and_i (leb 1 r) (leb r (delayOf t)) (le→leb 1 r k.0) (le→leb r (delayOf t) k.1)
+          and_i (leb 1 r) (leb r (delay_of t)) (le→leb 1 r k.0) (le→leb r (delay_of t) k.1)
       go t l false e = of_true (eq-eqb (reading readings t) 0 (zero t l e))
 
 -- a timer's delay is 1 or more

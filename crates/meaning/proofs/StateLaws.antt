@@ -126,9 +126,9 @@ pub sheet_state_stays_lem : SheetStateStays
 unfolding SheetStateStays
 sheet_state_stays_lem s h q i ok e = stays s (sound s h) q i ok e
 
-pub no_reading-zero : NoReadingZero
+pub no_reading_zero_lem : NoReadingZero
 unfolding NoReadingZero Right
-no_reading-zero s h q i ok e t on = ((good_e s (sound s h) (sheet_step s q i).state (timers_stay s (sound s h) q i (admitted_e s (sound s h) q ok).timers e)).right t on).0
+no_reading_zero_lem s h q i ok e t on = ((good_e s (sound s h) (sheet_step s q i).state (timers_stay s (sound s h) q i (admitted_e s (sound s h) q ok).timers e)).right t on).0
 
 -- ---- a table's states
 
@@ -235,9 +235,9 @@ table_runs_on_lem s w a q inputs out more out' n =
     (run_leaves_lem (k_in w) (table_step w) _ layout (table_state_ok w)
     (λ p i e admitted. (table_state_stays_lem s w a p i admitted (tick_done (k_in w) (table_step w) p i e).0).1) q _ inputs out n)
 
-pub accepted_not-stale : AcceptedNotStale
+pub accepted_not_stale_lem : AcceptedNotStale
 unfolding AcceptedNotStale table_run
-accepted_not-stale s w a q inputs out = go (table_state_ok w q) (output_short inputs out) refl refl
+accepted_not_stale_lem s w a q inputs out = go (table_state_ok w q) (output_short inputs out) refl refl
   where
     sd : Sound s
     sd = sound s (accepted_e s w a).0

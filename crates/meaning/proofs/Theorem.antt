@@ -14,7 +14,7 @@ use Rattle.meaning.proofs.StayTriggered.{stay_triggered_lem}
 use Rattle.meaning.proofs.AcceptanceLaws.{accepted_e}
 use Rattle.meaning.proofs.ServedLaws.{served_from_power_on}
 use Rattle.meaning.proofs.WholeListLaws.{served_each}
-use Rattle.meaning.proofs.StateLaws.{sheet_state_stays_lem, table_state_stays_lem, sheet_runs_on_lem, table_runs_on_lem, accepted_not-stale}
+use Rattle.meaning.proofs.StateLaws.{sheet_state_stays_lem, table_state_stays_lem, sheet_runs_on_lem, table_runs_on_lem, accepted_not_stale_lem}
 use Rattle.meaning.proofs.MasksFixTable.{masks_fix_table_lem}
 use Rattle.meaning.proofs.HighestLevel.{highest_level_first_lem}
 use Rattle.meaning.proofs.NamedLaws.{named_events_lem}
@@ -80,7 +80,7 @@ promised =
       table_state_stays = table_state_stays_lem;
       sheet_runs_on = sheet_runs_on_lem;
       table_runs_on = table_runs_on_lem;
-      accepted_not_stale = accepted_not-stale;
+      accepted_not_stale = accepted_not_stale_lem;
       compiled_accepted = compiled_accepted_lem;
       accepted_serves = accepted_serves_lem;
       masks_fix_table = masks_fix_table_lem;

@@ -128,12 +128,12 @@ module _ (s : List ℕ) (sd : Sound s) (done : ℕ) (state : ℕ → State) (inp
           absurd (omega (arith, r.1, reading_pos (suc (j + delay s t)) g r.0))
 
   -- by the words of the ticks and the modes at their ends
-  pub keeps_timeouts : (words : List ℕ) (atEnd : ℕ → ℕ)
+  pub keeps_timeouts : (words : List ℕ) (at_end : ℕ → ℕ)
       → ((n : ℕ) → n < done → entered_in words n ≡ (sets n).entered)
       → ((n : ℕ) → n < done → exited_in words n ≡ (sets n).exited)
-      → ((n : ℕ) → n < done → atEnd n ≡ (state (suc n)).at)
-      → KeepsTimeouts s done words atEnd
-  keeps_timeouts words atEnd entered exited ends =
+      → ((n : ℕ) → n < done → at_end n ≡ (state (suc n)).at)
+      → KeepsTimeouts s done words at_end
+  keeps_timeouts words at_end entered exited ends =
       record {
         timeout = λ t j l timer on entry g.
             left t l timer j (subst (λ (x : ℕ). T (has x (source s t))) (ends j (omega arith)) on)

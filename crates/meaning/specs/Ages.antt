@@ -25,4 +25,4 @@ ages_ok modes ages = every 32 (λ m. cond (has modes m) (leb (age ages m) 65535)
 
 -- 14 if not, for a sheet: "for every running timer .., reading plus age of its source is its delay"
 unfoldable pub sums_ok : ℕ → (ℕ → ℕ) → (ℕ → ℕ) → (ℕ → ℕ) → List ℕ → Bool
-sums_ok timers source_of delayOf reading_of ages = every_in 64 timers (λ t. eqb (reading_of t + age ages (source_of t)) (delayOf t))
+sums_ok timers source_of delay_of reading_of ages = every_in 64 timers (λ t. eqb (reading_of t + age ages (source_of t)) (delay_of t))

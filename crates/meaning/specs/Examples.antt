@@ -189,8 +189,8 @@ abbrev passing : List ℕ
 passing = sheet_of 2 three_modes (transition 1 2 (present 0) ∷ transition 2 3 (taken 0) ∷ transition 2 1 (present 1) ∷ [])
 
 -- 1→2, 1→3 and 3→1, all on event 0
-abbrev fork-and_back : List ℕ
-fork-and_back = sheet_of 1 three_modes (transition 1 2 (present 0) ∷ transition 1 3 (present 0) ∷ transition 3 1 (present 0) ∷ [])
+abbrev fork_and_back : List ℕ
+fork_and_back = sheet_of 1 three_modes (transition 1 2 (present 0) ∷ transition 1 3 (present 0) ∷ transition 3 1 (present 0) ∷ [])
 
 -- 1 contains 2 and 3: 2→3 on event 0; 1→4 after 1 tick, to which it gives way; 4→1 without delay, which enters 2 again
 abbrev timer_first : List ℕ
@@ -286,7 +286,7 @@ pub record Examples : Type 0 where
   pub why_input : why sheet power_on 2 1 ≡ refused 13
   -- "A refused tick reports its refusal only": of one taken in its first round, and of one whose source is never active
   pub why-restless : why to_and_fro power_on 1 0 ≡ refused 9
-  pub why-ambiguous : why fork-and_back power_on 1 2 ≡ refused 8
+  pub why-ambiguous : why fork_and_back power_on 1 2 ≡ refused 8
   -- a source that is entered and left again was active
   pub passed_through : why passing power_on 1 2 ≡ never_triggered
   -- "the lowest-numbered transition it gave way to", although that one gives way itself

@@ -24,8 +24,8 @@ is_fresh q = eqb q.at 0 && every 64 (λ t. eqb (reading q.readings t) 0)
 
 -- "each running reading 1 to its delay and others 0": the running timers as a set, and their delays
 unfoldable pub readings_ok : ℕ → (ℕ → ℕ) → List ℕ → Bool
-readings_ok timers delayOf readings =
-    every 64 (λ t. cond (has timers t) (leb 1 (reading readings t) && leb (reading readings t) (delayOf t)) (eqb (reading readings t) 0))
+readings_ok timers delay_of readings =
+    every 64 (λ t. cond (has timers t) (leb 1 (reading readings t) && leb (reading readings t) (delay_of t)) (eqb (reading readings t) 0))
 
 -- the due timers: "each running reading drops by 1", and is then 0
 unfoldable pub due_timers : ℕ → List ℕ → ℕ
@@ -34,16 +34,16 @@ due_timers timers readings = those 64 timers (λ t. eqb (reading readings t - 1)
 -- the readings after a tick with the timers that run then: a timer "takes its delay if its source was entered, else its lowered
 -- reading"; every other reading is 0
 unfoldable pub next_readings : ℕ → ℕ → (ℕ → ℕ) → (ℕ → ℕ) → List ℕ → List ℕ
-next_readings timers entered source_of delayOf readings =
-    row_from 0 64 (λ t. cond (has timers t) (cond (has entered (source_of t)) (delayOf t) (reading readings t - 1)) 0)
+next_readings timers entered source_of delay_of readings =
+    row_from 0 64 (λ t. cond (has timers t) (cond (has entered (source_of t)) (delay_of t) (reading readings t - 1)) 0)
 
 -- the state that a tick from q leaves: the mode set or block after it, by the modes that are active there, the timers that run and the
 -- modes entered
 unfoldable pub next_state : ℕ → ℕ → ℕ → ℕ → (ℕ → ℕ) → (ℕ → ℕ) → State → State
-next_state at modes timers entered source_of delayOf q =
+next_state at modes timers entered source_of delay_of q =
     record {
       at = at;
-      readings = next_readings timers entered source_of delayOf q.readings;
+      readings = next_readings timers entered source_of delay_of q.readings;
       ages = next_ages modes entered q.ages;
     }
 

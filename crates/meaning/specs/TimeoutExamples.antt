@@ -32,10 +32,10 @@ again = 0 ∷ 1 ∷ 0 ∷ 1 ∷ 1 ∷ 1 ∷ 1 ∷ []
 
 -- of the mode m, tick by tick, 1 if so: is it entered, is it exited, is it active at the end
 abbrev seen_in : ℕ → List ℕ → (ℕ → ℕ) → ℕ → List (List ℕ)
-seen_in ticks words atEnd m =
+seen_in ticks words at_end m =
     row_from 0 ticks (λ j. digit (has (entered_in words j) m))
     ∷ row_from 0 ticks (λ j. digit (has (exited_in words j) m))
-    ∷ row_from 0 ticks (λ j. digit (has (atEnd j) m))
+    ∷ row_from 0 ticks (λ j. digit (has (at_end j) m))
     ∷ []
 
 -- on a sheet, and on a table, from power-on

@@ -17,16 +17,16 @@ use Rattle.meaning.specs.Acceptance.{Accepted}
 unfoldable pub left_within : List ℕ → ℕ → ℕ → ℕ → Bool
 left_within words m j d = some d (λ i. has (exited_in words (j + 1 + i)) m)
 
--- s: the sheet; done: how many ticks are done; words: theirs; atEnd: the modes that are active at the end of each tick. Ticks are
+-- s: the sheet; done: how many ticks are done; words: theirs; at_end: the modes that are active at the end of each tick. Ticks are
 -- counted from 0.
-pub record KeepsTimeouts (s : List ℕ) (done : ℕ) (words : List ℕ) (atEnd : ℕ → ℕ) : Type 0 where
+pub record KeepsTimeouts (s : List ℕ) (done : ℕ) (words : List ℕ) (at_end : ℕ → ℕ) : Type 0 where
   -- "if a mode with a timer of delay d leaving it is active at the end of tick j and was last entered in tick j, and d further ticks
   -- are done, some tick from j + 1 to j + d has it in its exited set"
   pub timeout : (t j : ℕ) → t < t_of s → T (is_timer s t)
-      → T (has (atEnd j) (source s t)) → T (has (entered_in words j) (source s t)) → j + delay s t < done
+      → T (has (at_end j) (source s t)) → T (has (entered_in words j) (source s t)) → j + delay s t < done
       → T (left_within words (source s t) j (delay s t))
   -- "A mode with a delay-0 transition is never active at a tick's end."
-  pub never : (t j : ℕ) → t < t_of s → T (is_delay s t) → delay s t ≡ 0 → j < done → has (atEnd j) (source s t) ≡ false
+  pub never : (t j : ℕ) → t < t_of s → T (is_delay s t) → delay s t ≡ 0 → j < done → has (at_end j) (source s t) ≡ false
 
 -- "For an accepted sheet and any legal inputs": any sheet past 1 to 6, on any input sets, from power-on or any other state that is not
 -- refused 14; a refused tick ends the ticks that are done

@@ -21,7 +21,7 @@ use Rattle.meaning.specs.GivesWay.{gives_way}
 use Rattle.meaning.specs.Reaction.{TickSets, is_delay, delay, alternative, is_due, trigger, triggered, conflict, eligible, ambiguous, restless, exiting, entering, after_round}
 use Rattle.meaning.specs.Tick.{Tick, chosen, rounds_from}
 use Rattle.meaning.proofs.SheetLaws.{Sound, sound, t_le}
-use Rattle.meaning.proofs.GivesWayLaws.{no_conflict-stays, eligible_among}
+use Rattle.meaning.proofs.GivesWayLaws.{no_conflict_stays, eligible_among}
 use Rattle.meaning.proofs.TickLaws.{Taken, chosen_lt, modes_after, entered_after}
 use Rattle.meaning.proofs.Consistency.{entering_e, entering_i, source_on, clear_apart, consistent_after}
 use Rattle.meaning.proofs.HighestLevel.{source_exited}
@@ -45,7 +45,7 @@ module _ (s : List ℕ) (h : sheet_refusal s ≡ 0) (ts : ℕ) (small : ts < 2 ^
   -- none gives way to another
   stays : (t u : ℕ) → T (has ts t) → T (has ts u) → gives_way s u t ≡ false
   stays t u a b =
-      no_conflict-stays s t u
+      no_conflict_stays s t u
       (is_false (not (eqb t u) && conflict s t u) (λ k.
       clear_apart s (sound s h) ts below clear t u a b
       (λ q. T_not (eqb t u) (and_l (not (eqb t u)) (conflict s t u) k) (of_true (eq-eqb t u q)))
@@ -142,9 +142,9 @@ module _ (s : List ℕ) (h : sheet_refusal s ≡ 0) (d d' i : ℕ) (z : TickSets
       subst T (sym (modes_after s z es (source s u)))
       (or_r (has z.modes (source s u) && not (has (exiting s z es) (source s u))) (has (entering s es) (source s u)) k)
 
-  entered-not_due : (u : ℕ) → T (has (entering s es) (source s u)) → T (is_due s d' z' u) → ⊥
+  entered_not_due : (u : ℕ) → T (has (entering s es) (source s u)) → T (is_due s d' z' u) → ⊥
   unfolding is_due
-  entered-not_due u k m =
+  entered_not_due u k m =
       T_not (has z'.entered (source s u)) (and_r (has d' u) (not (has z'.entered (source s u))) m)
       (subst T (sym (entered_after s z es (source s u))) (or_r (has z.entered (source s u)) (has (entering s es) (source s u)) k))
 
@@ -194,7 +194,7 @@ module _ (s : List ℕ) (h : sheet_refusal s ≡ 0) (d d' i : ℕ) (z : TickSets
       (has-those 64 (meet next (mixed s)) judge u (lt_of_lt_of_le l (t_le s (sound s h)))
       ∙ ap (λ (x : Bool). x && judge u) (has_meet next (mixed s) u ∙ ap₂ ◌&&◌ next_is (has-set_of (t_of s) _ u l)))
       ∙ next_cases (is_next s es u) (has (entering s es) (source s u)) (has z'.modes (source s u)) (is_delay s u) (eqb (delay s u) 0) (is_due s d' z' u) (events_only s u)
-      (alternative s i z' u) (alternative s i no_sets u) (entered_on u) (entered-not_due u) (next_plain s h es u l) (events_alone s i no_sets z' u small h l)
+      (alternative s i z' u) (alternative s i no_sets u) (entered_on u) (entered_not_due u) (next_plain s h es u l) (events_alone s i no_sets z' u small h l)
       (triggered_next u l)
 
   pub next_triggered : triggered s d' i z' ≡ union (meet (next_in s es) (hits_of s i)) (those 64 (meet (next_in s es) (mixed s)) judge)

@@ -54,16 +54,16 @@ module _ (timers : ℕ) (ends : List ℕ) (i : ℕ) where
       (λ t a b. cond_ext (has timers t) ((get_or ends t 0 - i) % 2 ^ 32) (get_or ends t 0 - i) 0 (λ h. mod-eq_of_lt (small t (omega arith) h))))
 
   -- the state that a tick leaves, by the deadlines and limits then
-  pub state_next : (at active entered : ℕ) (limits : List ℕ) (source_of delayOf : ℕ → ℕ) (q : State)
-      → ((t : ℕ) → t < 64 → T (has timers t) → get_or ends t 0 - i ≡ cond (has entered (source_of t)) (delayOf t) (reading q.readings t - 1))
+  pub state_next : (at active entered : ℕ) (limits : List ℕ) (source_of delay_of : ℕ → ℕ) (q : State)
+      → ((t : ℕ) → t < 64 → T (has timers t) → get_or ends t 0 - i ≡ cond (has entered (source_of t)) (delay_of t) (reading q.readings t - 1))
       → ages_by limits active i ≡ next_ages active entered q.ages
-      → state_from at active timers ends limits i ≡ next_state at active timers entered source_of delayOf q
+      → state_from at active timers ends limits i ≡ next_state at active timers entered source_of delay_of q
   unfolding next_state next_readings
-  state_next at active entered limits source_of delayOf q e aged =
+  state_next at active entered limits source_of delay_of q e aged =
       ap₂ (λ (l v : List ℕ). record { at = at; readings = l; ages = v })
       (row_from_ext (λ t. cond (has timers t) (get_or ends t 0 - i) 0)
-      (λ t. cond (has timers t) (cond (has entered (source_of t)) (delayOf t) (reading q.readings t - 1)) 0) 0 64
-      (λ t a b. cond_ext (has timers t) (get_or ends t 0 - i) (cond (has entered (source_of t)) (delayOf t) (reading q.readings t - 1)) 0 (e t (omega arith))))
+      (λ t. cond (has timers t) (cond (has entered (source_of t)) (delay_of t) (reading q.readings t - 1)) 0) 0 64
+      (λ t a b. cond_ext (has timers t) (get_or ends t 0 - i) (cond (has entered (source_of t)) (delay_of t) (reading q.readings t - 1)) 0 (e t (omega arith))))
       aged
 
 -- the deadline of a timer, after those of a set start again
@@ -75,7 +75,7 @@ deadline_after set i delays ends ee t l p q =
 
 -- ---- at the start of a call the deadlines are the readings, where these are sound
 
-module _ (timers : ℕ) (delayOf : ℕ → ℕ) (q : State) (sound : (t : ℕ) → t < 64 → T (reading_fits timers delayOf q.readings t)) where
+module _ (timers : ℕ) (delay_of : ℕ → ℕ) (q : State) (sound : (t : ℕ) → t < 64 → T (reading_fits timers delay_of q.readings t)) where
   abbrev readings : List ℕ
   readings = q.readings
 
@@ -83,7 +83,7 @@ module _ (timers : ℕ) (delayOf : ℕ → ℕ) (q : State) (sound : (t : ℕ) �
   state_start active limits n aged =
       ap₂ (λ (l v : List ℕ). record { at = q.at; readings = l; ages = v })
       (row_from_ext (λ t. cond (has timers t) (get_or readings t 0 - 0) 0) (λ t. get_or readings t 0) 0 64
-      (λ t a b. at (has timers t) (get_or readings t 0) (delayOf t) (sound t (omega arith)))
+      (λ t a b. at (has timers t) (get_or readings t 0) (delay_of t) (sound t (omega arith)))
       ∙ sym (rw n at (row_from-get_or readings 0)))
       aged
     where
@@ -91,9 +91,9 @@ module _ (timers : ℕ) (delayOf : ℕ → ℕ) (q : State) (sound : (t : ℕ) �
       at true v d k = sub-zero v
       at false v d k = sym (eqb→eq v 0 k)
 
-  pub start_within : (t : ℕ) → t < 64 → T (has timers t) → (1 ≤ get_or readings t 0) × (get_or readings t 0 ≤ delayOf t)
+  pub start_within : (t : ℕ) → t < 64 → T (has timers t) → (1 ≤ get_or readings t 0) × (get_or readings t 0 ≤ delay_of t)
   start_within t l k =
       let v = get_or readings t 0 in
-      let r : T (leb 1 v && leb v (delayOf t)) =
-      subst (λ (b : Bool). T (cond b (leb 1 v && leb v (delayOf t)) (eqb v 0))) (is_true (has timers t) k) (sound t l) in
-      (leb→le 1 v (and_l (leb 1 v) (leb v (delayOf t)) r), leb→le v (delayOf t) (and_r (leb 1 v) (leb v (delayOf t)) r))
+      let r : T (leb 1 v && leb v (delay_of t)) =
+      subst (λ (b : Bool). T (cond b (leb 1 v && leb v (delay_of t)) (eqb v 0))) (is_true (has timers t) k) (sound t l) in
+      (leb→le 1 v (and_l (leb 1 v) (leb v (delay_of t)) r), leb→le v (delay_of t) (and_r (leb 1 v) (leb v (delay_of t)) r))

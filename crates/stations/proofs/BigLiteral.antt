@@ -1,5 +1,5 @@
--- A literal above 4,096 as an operand of a walk. It says nothing of the crate, and can be copied as it stands.
---     big-lit      `int_big w n` evaluates to n, where n fits the width
+-- A literal above 4,096 as an operand of a proof by hand. It says nothing of the crate, and can be copied as it stands.
+--     big_lit      `int_big w n` evaluates to n, where n fits the width
 -- Assumes `Logic`.
 use Prim.Native.Nat.{ℕ}
 use mathlib.Core.List.{List}

@@ -14,14 +14,14 @@ use Rattle.meaning.specs.WholeList.{Call, Served}
 use Rattle.meaning.specs.NoIdleArrows.{TakenInTable}
 use Rattle.run.specs.States.{state_of}
 use Rattle.compiler.specs.declared.Compiled.{Compiled}
-use Rattle.compiler.proofs.compile.Kinds as compileKinds
-use Rattle.compiler.proofs.compile.Reads as compileContract
-use Rattle.acceptance.proofs.accept.Kinds as acceptKinds
-use Rattle.acceptance.proofs.accept.Reads as acceptContract
+use Rattle.compiler.proofs.compile.Kinds as compile_kinds
+use Rattle.compiler.proofs.compile.Reads as compile_contract
+use Rattle.acceptance.proofs.accept.Kinds as accept_kinds
+use Rattle.acceptance.proofs.accept.Reads as accept_contract
 use Rattle.recorder.specs.Runs.{ran_of}
 use Rattle.recorder.specs.declared.table_run.Ran.{Ran}
-use Rattle.recorder.proofs.table_run.run.Kinds as runKinds
-use Rattle.recorder.proofs.table_run.run.Reads as runContract
+use Rattle.recorder.proofs.table_run.run.Kinds as run_kinds
+use Rattle.recorder.proofs.table_run.run.Reads as run_contract
 
 -- A call is told by its lifetimes (`Lfts`, one for each slice), the values passed (`Dens`), the value returned, and the parameters as
 -- they are at exit (`AtExit`); the words of a slice are `now` of it.
@@ -29,10 +29,10 @@ use Rattle.recorder.proofs.table_run.run.Reads as runContract
 -- a call of `compile(sheet, table, work)`, whose contract holds
 pub record CompileCall : Type 0 where
   pub lifetimes : Lfts 3
-  pub lent : Dens lifetimes compileKinds.ps
+  pub lent : Dens lifetimes compile_kinds.ps
   pub returned : Compiled
-  pub left : AtExit (ended_of 3 compileKinds.ps compileKinds.r) lifetimes
-  pub contract : compileContract.Learnt lifetimes lent returned left
+  pub left : AtExit (ended_of 3 compile_kinds.ps compile_kinds.r) lifetimes
+  pub contract : compile_contract.Learnt lifetimes lent returned left
 
 module _ (c : CompileCall) where
   unfoldable pub sheet_words : List ℕ
@@ -45,10 +45,10 @@ module _ (c : CompileCall) where
 -- a call of `accept(sheet, table)`, whose contract holds
 pub record AcceptCall : Type 0 where
   pub lifetimes : Lfts 2
-  pub lent : Dens lifetimes acceptKinds.ps
+  pub lent : Dens lifetimes accept_kinds.ps
   pub returned : Refusal
-  pub left : AtExit (ended_of 2 acceptKinds.ps acceptKinds.r) lifetimes
-  pub contract : acceptContract.Learnt lifetimes lent returned left
+  pub left : AtExit (ended_of 2 accept_kinds.ps accept_kinds.r) lifetimes
+  pub contract : accept_contract.Learnt lifetimes lent returned left
 
 module _ (c : AcceptCall) where
   unfoldable pub sheet_checked : List ℕ
@@ -60,10 +60,10 @@ module _ (c : AcceptCall) where
 -- a call of `run(table, state, inputs, out)`, whose contract holds
 pub record RunCall : Type 0 where
   pub lifetimes : Lfts 3
-  pub passed : Dens lifetimes runKinds.ps
+  pub passed : Dens lifetimes run_kinds.ps
   pub returned : Ran
-  pub left : AtExit (ended_of 3 runKinds.ps runKinds.r) lifetimes
-  pub contract : runContract.Learnt lifetimes passed returned left
+  pub left : AtExit (ended_of 3 run_kinds.ps run_kinds.r) lifetimes
+  pub contract : run_contract.Learnt lifetimes passed returned left
 
 module _ (c : RunCall) where
   -- the table and the state that it gets

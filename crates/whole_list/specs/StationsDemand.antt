@@ -13,7 +13,7 @@ use Rattle.meaning.specs.TickAllowance.{rest_of, words_of, Fair}
 use Rattle.stations.specs.Stations.{stations_of}
 use Rattle.stations.specs.declared.Served.{Served as Answer}
 use Rattle.stations.specs.contracts.serve as serve
-use Rattle.stations.proofs.ContractLaws as serveContract
+use Rattle.stations.proofs.ContractLaws as serve_contract
 use Rattle.whole_list.specs.Demand3.{CompileCall, sheet_words, table_words, AcceptCall, sheet_checked, table_checked}
 
 -- a call of `serve(stations, table, inputs, out, allowance)`, whose contract holds
@@ -22,7 +22,7 @@ pub record StationsCall : Type 0 where
   pub passed : ArgsD serve.signature lifetimes
   pub returned : Answer
   pub left : AtExit serve.ended lifetimes
-  pub contract : serveContract.Learnt lifetimes passed returned left
+  pub contract : serve_contract.Learnt lifetimes passed returned left
 
 module _ (c : StationsCall) where
   -- what it gets: the table, the stations and the output words as lent, the input list, the allowance

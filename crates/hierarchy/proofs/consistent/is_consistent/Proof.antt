@@ -10,7 +10,7 @@ use Rattle.sets.specs.Sets.{has, below, every_in}
 use Rattle.meaning.specs.Sheet.{n_of}
 use Rattle.meaning.proofs.SheetLaws.{sound, n_pos, n_le}
 use Rattle.sheet.proofs.Past.{head_read}
-use Rattle.hierarchy.proofs.ConsistentLaws.{consistent-not_below, consistent_rootless, below_lt_n, consistent-members}
+use Rattle.hierarchy.proofs.ConsistentLaws.{consistent_not_below, consistent_rootless, below_lt_n, consistent-members}
 use borrow.Author.Rules.{rules}
 use Rattle.hierarchy.proofs.consistent.is_consistent.Statement.{statement}
 use Rattle.hierarchy.proofs.consistent.is_consistent.Tie as tie
@@ -43,7 +43,7 @@ returns c =
     let s = c.before.before.before.before.before in
     let x = s.args.x in
     ⊎_elim
-    (λ w. consistent-not_below s.args.sheet.now s.requires x s.ranges.x.fits (within-n c.before _ (not-true _ w.if-not-within.true-raw)))
+    (λ w. consistent_not_below s.args.sheet.now s.requires x s.ranges.x.fits (within-n c.before _ (not-true _ w.if-not-within.true-raw)))
     (λ w. consistent_rootless s.args.sheet.now s.requires x s.ranges.x.fits (sym w.has.ensures ∙ not-true _ w.if-not-has.true-raw))
     c.then-not-within.branch-raw
 

@@ -32,7 +32,7 @@ use Rattle.recorder.proofs.table_run.ticks_with.Statement.{statement}
 use Rattle.recorder.proofs.table_run.ticks_with.Tie as tie
 
 abbrev invariant_loop : tie.invariant-loop-i
-invariant_loop table timers delays bySource timed inputs out₀ k from ends₀ limits₀ b₀ seen₀ soon₀ i₀ out ends limits b seen soon i =
+invariant_loop table timers delays by_source timed inputs out₀ k from ends₀ limits₀ b₀ seen₀ soon₀ i₀ out ends limits b seen soon i =
     Known table k delays from timed
     × ReachedBlock table inputs out₀ (state_at table b₀.number ends₀ limits₀ 0) out ends (limits_by limits out seen i) b.number i
     × TableBlockOf table b
@@ -40,7 +40,7 @@ invariant_loop table timers delays bySource timed inputs out₀ k from ends₀ l
     × ((t : ℕ) → has b.timers t ≡ true → soon ≤ get_or ends t 0)
 
 abbrev decreases_loop : tie.decreases-loop-i
-decreases_loop table timers delays bySource timed inputs out₀ k from ends₀ limits₀ b₀ seen₀ soon₀ i₀ out ends limits b seen soon i = length inputs - i
+decreases_loop table timers delays by_source timed inputs out₀ k from ends₀ limits₀ b₀ seen₀ soon₀ i₀ out ends limits b seen soon i = length inputs - i
 
 -- ---- the places that the needs go back to, each from the one after it
 

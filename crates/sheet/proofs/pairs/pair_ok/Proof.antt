@@ -1,4 +1,4 @@
--- `sheet::pairs::pair_ok_lem` meets its contract. Assumes nothing.
+-- `sheet::pairs::pair_ok` meets its contract. Assumes nothing.
 use borrow.Author.Rules.{rules}
 use mathlib.Core.Path.{◌≡◌, refl}
 use mathlib.Core.Bool.{Bool, ◌&&◌}
