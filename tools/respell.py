@@ -3,7 +3,7 @@
 
 usage: tools/respell.py [FOLDER]      rewrites crates/ of FOLDER (the repository, if left out) in place, once
 
-tools/respelled.tsv has a line for each name: as it was, as it is, and `field` where it is a field, which is also read behind a dot.
+tools/respelled.tsv has a line for each name: as the kit's port.py left it, as it is, and `field` where it is a field, which is also read behind a dot.
 Functions of src/, exported names, strings, inputs and outputs keep their names. A lemma that would have a definition's name ends in `_lem`.
 """
 import os
