@@ -6,7 +6,6 @@ use mathlib.Core.Bool.{true}
 use Prim.Native.Nat.{◌-◌, ◌<◌}
 use native.Mathlib.Omega.{arith}
 use borrow.Author.Rules.{rules}
-use borrow.Author.Tests.{ltb-true, ltb-false}
 use lib.ListN.{length}
 use Rattle.sets.proofs.Tests.{of_false}
 use Rattle.sets.proofs.Loops.{passed, failed}
@@ -68,7 +67,7 @@ returns c =
     let fails = head_fails s.requires.0 s.requires.1 (λ q.
     ⊎_elim
     (λ v. of_false (failed c.is_consistent.ensures v.if-not-is_consistent.true-raw) q.0)
-    (λ v. omega (arith, v.place.ensures.0, ltb-true v.place.result (s.args.b - 1) v.if-place-b.true-raw, q.1))
+    (λ v. omega (arith, v.place.ensures.0, q.1))
     c.then-not-is_consistent.branch-raw) in
     (fails, λ h. absurd h)
 
@@ -110,7 +109,7 @@ returns-3 c =
     let yes : head_faithful s.args.sheet.now s.args.table.now s.args.b ≡ true =
     head_i s.requires.0 s.requires.1
     (passed (judged p).is_consistent.ensures p.if-not-is_consistent.false-raw)
-    (omega (arith, p.place.ensures.0, ltb-false p.place.result (s.args.b - 1) r.if-place-b.false-raw))
+    (omega (arith, p.place.ensures.0))
     (sym (timers-are r) ∙ n.if-timers_at-running.false ∙ r.running.ensures) in
     (sym yes, λ _. noted_next s.requires.0 s.requires.1 yes refl n.note.ensures)
 
