@@ -6,9 +6,7 @@ use mathlib.Core.List.{List, [], ◌∷◌}
 use borrow.Author.Rules.{rules}
 use Prim.Native.Nat.{ℕ, suc, ◌+◌, ◌-◌, ◌*◌, ◌/◌, ◌^◌, ◌≤◌, ◌<◌, zero-le}
 use native.Mathlib.Omega.{arith}
-use lib.Dec.{eqb}
 use lib.ListN.{length, get_or}
-use borrow.Author.Tests.{eqb-false, not-true}
 use Rattle.sets.specs.Sets.{has, meet}
 use Rattle.sets.proofs.Tests.{of_true}
 use Rattle.meaning.specs.Lists.{row_from}
@@ -78,15 +76,9 @@ inside c = (known (due c)).before.before
 abbrev head : tie.After-first_triggered-first invariant_loop decreases_loop → tie.At-loop-i invariant_loop decreases_loop
 head c = (inside c).before
 
--- nothing is triggered: that place from the words and numbers put, these from the end of the turn
-abbrev quiet : tie.After-put_quiet invariant_loop decreases_loop → tie.Then-x-ne0 invariant_loop decreases_loop
-quiet c = c.before.before.before
-
-abbrev still : tie.Then-x-ne0 invariant_loop decreases_loop → tie.After-first_triggered-first invariant_loop decreases_loop
-still c = c.before.before
-
-abbrev quiet_put : tie.After-ends-then-x-ne0-1 invariant_loop decreases_loop → tie.After-put_quiet invariant_loop decreases_loop
-quiet_put c = c.before.before.before.before.before
+-- nothing is triggered, and words and numbers are put: what is triggered first
+abbrev still : tie.After-put_quiet invariant_loop decreases_loop → tie.After-first_triggered-first invariant_loop decreases_loop
+still c = c.before.before.before.before.before
 
 -- else: what is triggered first from the rounds; the rounds, not refused; what the tick leaves; the deadlines; the words and numbers
 -- put
@@ -118,6 +110,10 @@ abbrev inputs-left : tie.After-slice_known-else-first-eq0-2-1 invariant_loop dec
 inputs-left c = inside (triggers (leaves c))
 
 -- ---- what holds there
+
+-- the tick is not the first
+not-first : (c : tie.After-put_quiet invariant_loop decreases_loop) → 0 < (head (still c)).loop-i.x
+not-first c = omega arith
 
 sheet-sound : (c : tie.At-loop-i invariant_loop decreases_loop) → Sound (start c).args.sheet.now
 sheet-sound c = sound _ (start c).requires.0.passes
@@ -304,24 +300,22 @@ first-triggered-requires c κs =
 
 put-quiet-requires : tie.Need-put_quiet-requires invariant_loop decreases_loop
 put-quiet-requires c κs =
-    let on = inside (still c.before.before) in
+    let on = inside c.before.before.before.before in
     (out-room on, omega (arith, on.loop-i-test.true, on.loop-i.invariant.0.written.room))
 
 soon-after-requires : tie.Need-soon_after-soon-requires invariant_loop decreases_loop
-soon-after-requires c κs = no-sooner (head (still (quiet (quiet_put c))))
+soon-after-requires c κs = no-sooner (head (still c.before.before.before.before.before))
 
 loop-less : tie.Need-loop-i-smaller-then-x-ne0 invariant_loop decreases_loop
-loop-less c = omega (arith, (inside (still (quiet (quiet_put c.before)))).loop-i-test.true)
+loop-less c = omega (arith, (inside (still c.before.before.before.before.before.before)).loop-i-test.true)
 
 loop-again : tie.Need-loop-i-preserved-then-x-ne0 invariant_loop decreases_loop
 loop-again c =
-    let out = quiet_put c.before in
-    let none = quiet out in
-    let f = still none in
+    let out = c.before.before.before.before.before.before in
+    let f = still out in
     let at = head f in (
       next_quiet at.loop-i.invariant.0 (runs at) (due f).due_by-d.ensures.0 (inside f).loop-i-test.true (input_ok (known (due f)))
-          f.start_from-from.ensures f.first_triggered-first.ensures none.if-first-eq0.true
-          (eqb-false at.loop-i.x 0 (not-true (eqb at.loop-i.x 0) none.if-x-ne0.true-raw)) c.soon_after-soon.ensures
+          f.start_from-from.ensures f.first_triggered-first.ensures (omega arith) (λ e. omega (arith, not-first out)) c.soon_after-soon.ensures
           out.put_quiet.ensures.0 out.put_quiet.ensures.1
           (ap (λ (o : List ℕ). limits_by at.loop-i.limits o at.loop-i.seen (at.loop-i.i + 1)) out.put_quiet.ensures.0
           ∙ limits_quiet at.loop-i.limits at.loop-i.out at.loop-i.i at.loop-i.seen (0 ∷ at.loop-i.x ∷ 0 ∷ 0 ∷ []) refl (out-room (inside f))),
