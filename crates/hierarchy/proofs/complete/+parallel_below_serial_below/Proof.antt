@@ -1,15 +1,17 @@
 -- `hierarchy::complete::serial_below` and `hierarchy::complete::parallel_below`, which call each other, meet their contracts. The measure
 -- of both is 32 less the mode, since a child has a higher number. The loop's invariant: r with what is below the children in rest is
 -- what is below m. Assumes nothing.
-use mathlib.Core.Path.{◌≡◌, refl, sym, ◌∙◌}
+use mathlib.Core.Path.{◌≡◌, refl, sym, ◌∙◌, subst}
 use mathlib.Core.Logic.{⊎_elim}
 use Prim.Native.Nat.{ℕ, ◌-◌, ◌^◌, ◌<◌}
 use native.Mathlib.Omega.{arith}
 use borrow.Author.Rules.{rules}
+use lib.Dec.{T}
 use borrow.Fn.Kinds.{In}
 use borrow.Fn.PlainCycle.{Measures, is, falls, and}
-use Rattle.sets.specs.Sets.{union, minus, single, members, lowest}
+use Rattle.sets.specs.Sets.{has, union, minus, single, members, lowest}
 use Rattle.sets.proofs.Tests.{of_true}
+use Rattle.sets.proofs.Facts.{union_l}
 use Rattle.sets.proofs.Members.{Turn, fold, turn, fold_turn, fold_done}
 use Rattle.sets.proofs.Those.{Subset, subset_turn}
 use Rattle.meaning.specs.Sheet.{n_of}
@@ -85,6 +87,14 @@ parallel_below_loop_holds t c =
     let p = s.requires.1 in
     rw (children_word s.args.sheet.now s.args.children.now s.args.m p.0 p.1 p.2)
     (fits_32 _ p.0 (children-lt _ _), λ i h. h, completed_below_members _ (sound _ p.0) _ _ p.1 p.3)
+
+-- a turn keeps what was gathered before it
+gathered : (t : ℕ) (c : parallel-below-lts.Joined-children-c-ne0 (parallel_calls t) (parallel_below_at t) parallel-below.Post invariant_loop decreases_loop)
+    → (i : ℕ) → T (has c.loop-rest.r i) → T (has c.if-children-c-ne0.r i)
+gathered t c i h =
+    ⊎_elim (λ w. subst (λ (y : ℕ). T (has y i)) (sym w.r-is) (union_l _ _ i h))
+    (⊎_elim (λ w. subst (λ (y : ℕ). T (has y i)) (sym w.r-is) (union_l _ _ i h)) (λ w. subst (λ (y : ℕ). T (has y i)) (sym w.r-is) h))
+    c.if-children-c-ne0.branch-raw
 
 -- a turn takes out a child of m, for which the measure is lower
 parallel-turn : (t : ℕ) (c : parallel-below-lts.After-lowest-c (parallel_calls t) (parallel_below_at t) parallel-below.Post invariant_loop decreases_loop) {r : ℕ}
