@@ -1,4 +1,4 @@
--- `run::deadlines::soon_with` meets its contract: where it is not 0, no timer starts. Assumes nothing.
+-- `run::deadlines::soon_with` meets its contract: where the set is empty, no timer starts. Assumes nothing.
 use mathlib.Core.Path.{◌≡◌, ap, ◌∙◌}
 use Prim.Native.Nat.{ℕ}
 use native.Mathlib.Omega.{arith}
