@@ -19,11 +19,8 @@ pub fn put_masks(table: &[u32], masks: &mut [u32])
     requires { T (shape_ok table.now) × (b_in table.now ≤ length masks.old) }
     ensures { masks.new ≡ over masks.old 0 (masks_in table.now) }
 {
-    let count = block_count(table);
-    let mut b = 0;
-    while b < count {
+    for b in 0..block_count(table) {
         masks[b] = table[offset(table, b)];
-        b += 1;
     }
 }
 
@@ -66,12 +63,10 @@ pub fn heads_true(
         × PowerOfTwo (length hints.old) }
     ensures { result ≡ every (b_in table.now) (head_faithful sheet.now table.now) }
 {
-    let mut b = 1;
-    while b < masks.len() {
+    for b in 1..masks.len() {
         if !head_true(sheet, plan, table, masks, hints, b) {
             return false;
         }
-        b += 1;
     }
     true
 }

@@ -1,5 +1,6 @@
-// The text of the conformance program: numbers, words, states and runs read, digests and lines written.
+// The text of the conformance program: numbers, words, states and runs read, lines written, digests.
 #![tactic(auto)]
 
-pub mod parts;
+pub mod digests;
+pub mod line;
 pub mod text;

@@ -1,82 +1,56 @@
 // The cases of a sheet, check and sheet run: what each reads after its number, the call that it makes and the line that it writes.
 ghost use Rattle.std.specs.Prelude.{◌+◌, ◌≤◌, length};
 
-use case_text::parts::{Read, digest, put_state, read_run, read_words};
-use case_text::text;
-use case_text::text::Input;
-use meaning::refusal::{Refusal, number};
+use case_text::digests::digest;
+use case_text::line::Line;
+use case_text::text::Text;
 use run::counts::Rounds;
-use run::state::State;
-use simulator::sheet_run::Ran;
+use simulator::sheet_run::{Ran, run};
 
-// Writes the line of a check.
-fn write_check(refusal: Refusal) {
-    let mut line = [0u8; 8192];
-    let mut at = text::start(&mut line, b"check");
-    at = text::put(&mut line, at, number(refusal) as u64);
-    text::write(&mut line, at);
+// Case 1: a sheet, which is the current one from now on, and its check; how many words it has.
+pub fn check(text: &mut Text, sheet: &mut [u32]) -> usize
+    ensures { result ≤ length sheet.old }
+{
+    let words = text.words(sheet);
+    let mut line = Line::start(b"check");
+    line.put_refusal(sheet::check(&sheet[..words]).err());
+    line.write();
+    words
 }
 
-// The rounds as one number, 2^64 - 1 where they are no such number.
+// The rounds as one number, 2^64 - 1 where that is larger.
 fn total(rounds: Rounds) -> u64 {
-    let whole = rounds.0;
-    let rest = rounds.1;
-    if whole < 4294967296 {
-        if rest < 4294967296 {
-            return whole * 4294967296 + rest;
-        }
-    }
-    u64::MAX
+    let Rounds(whole, rest) = rounds;
+    whole.saturating_mul(1 << 32).saturating_add(rest)
 }
 
-// Case 1: a sheet, and its check.
-pub fn check(buf: &mut [u8; 65536], from: Input, sheet: &mut [u32]) -> Read
-    ensures { result.words ≤ length sheet.old }
+// The refusal of a sheet run, its ticks done and its rounds.
+pub fn put_counts(line: &mut Line, ran: &Ran)
+    requires { line.old ≤ 64 }
+    ensures { line.new ≤ line.old + 63 }
 {
-    let read = read_words(buf, from, sheet);
-    let words = read.words;
-    write_check(sheet::check(&sheet[..words]));
-    read
+    line.put_refusal(ran.refusal);
+    line.put(ran.done.0 as u64);
+    line.put(total(ran.rounds));
 }
 
-// The refusal of a sheet run, its ticks done and its rounds into the line at a place; the place after them.
-pub fn put_counts(line: &mut [u8; 8192], from: usize, ran: Ran) -> usize
-    requires { from ≤ 64 }
-    ensures { result ≤ from + 63 }
-{
-    let refusal = ran.refusal;
-    let rounds = ran.rounds;
-    let mut at = text::put(line, from, number(refusal) as u64);
-    at = text::put(line, at, ran.done.0 as u64);
-    text::put(line, at, total(rounds))
-}
-
-// Writes the line of a sheet run, with the digest of its output words.
-fn write_sheet_run(ran: Ran, outputs: u64) {
-    let mut line = [0u8; 8192];
-    let state = ran.state;
-    let mut at = text::start(&mut line, b"sheet");
-    at = put_counts(&mut line, at, ran);
-    at = text::put(&mut line, at, outputs);
-    at = put_state(&mut line, at, state);
-    text::write(&mut line, at);
-}
-
-// Runs the sheet and writes the line of the run; its numbers are not asked for.
-fn run_sheet(sheet: &[u32], state: State, inputs: &[u32], out: &mut [u32]) {
-    let mut numbers = [0u8; 4096];
-    let ran = simulator::sheet_run::run(sheet, state, inputs, out, &mut numbers);
-    write_sheet_run(ran, digest(out));
-}
-
-// Case 2: a run of the current sheet.
-pub fn sheet_run(buf: &mut [u8; 65536], from: Input, sheet: &[u32]) -> Input {
-    let mut inputs = [0u32; 64];
-    let mut out = [4294967295u32; 400];
-    let asked = read_run(buf, from, &mut inputs);
-    let state = asked.state;
-    let m = asked.inputs;
-    let o = asked.outputs;
-    run_sheet(sheet, state, &inputs[..m], &mut out[..o]);
-    asked.input
+// Case 2: a run of the current sheet; its numbers are not asked for.
+pub fn sheet_run(text: &mut Text, sheet: &[u32]) {
+    let mut inputs = [0; 64];
+    let mut out = [u32::MAX; 400];
+    let mut numbers = [0; 4096];
+    let asked = text.run(&mut inputs, out.len());
+    let out = &mut out[..asked.outputs];
+    let ran = run(
+        sheet,
+        asked.state,
+        &inputs[..asked.inputs],
+        out,
+        &mut numbers,
+    );
+    let mut line = Line::start(b"sheet");
+    put_counts(&mut line, &ran);
+    line.put(digest(out));
+    line.put_state(&ran.state);
+    line.write();
 }

@@ -1,45 +1,33 @@
 // The case of the masks within each mode of the current sheet: the call that it makes and the line that it writes.
-ghost use Rattle.std.specs.Prelude.{◌+◌, ◌*◌, ◌≤◌};
+ghost use Rattle.std.specs.Prelude.{◌+◌, ◌*◌, ◌≤◌, length};
 
-use case_text::text;
-use meaning::refusal::number;
+use case_text::line::Line;
 use sheet::within::masks_of;
-use sheet::words::wide;
 
-// The first masks into the line; the place after them.
-fn put_masks(line: &mut [u8; 8192], from: usize, masks: &[u32; 32], count: usize) -> usize
-    requires { (from + 21 * 32 ≤ 8192) × (count ≤ 32) }
-    ensures { result ≤ from + 21 * 32 }
+// Masks, one after another.
+fn put_masks(line: &mut Line, masks: &[u32])
+    requires { line.old + 21 * length masks.now ≤ 8192 }
+    ensures { line.new ≤ line.old + 21 * length masks.now }
 {
-    let mut at = from;
-    let mut p = 0;
-    while p < count {
-        at = text::put(line, at, wide(masks[p]) as u64);
-        p += 1;
+    for &mask in masks {
+        line.put(mask);
     }
-    at
 }
 
 // How many modes a sheet has.
 fn modes_of(sheet: &[u32]) -> usize
     ensures { result ≤ 32 }
 {
-    if sheet.len() == 0 {
-        return 0;
-    }
-    text::at_most(sheet[0], 32)
+    sheet.first().map_or(0, |n| 32.min(*n as usize))
 }
 
 // Case 13: the refusal of the current sheet; if there is none, a mask for each mode.
 pub fn masks(sheet: &[u32]) {
-    let mut line = [0u8; 8192];
     let given = masks_of(sheet);
-    let why = given.refusal;
-    let masks = given.masks;
-    let mut at = text::start(&mut line, b"within");
-    at = text::put(&mut line, at, number(why) as u64);
-    if number(why) == 0 {
-        at = put_masks(&mut line, at, &masks, modes_of(sheet));
+    let mut line = Line::start(b"within");
+    line.put_refusal(given.err());
+    if let Ok(masks) = given {
+        put_masks(&mut line, &masks[..modes_of(sheet)]);
     }
-    text::write(&mut line, at);
+    line.write();
 }

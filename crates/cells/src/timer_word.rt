@@ -4,7 +4,7 @@ ghost use Rattle.meaning.specs.Sheet.{t_of};
 ghost use Rattle.meaning.specs.Compile.{timer_word};
 ghost use Rattle.reaction.specs.Plan.{Planned};
 
-use reaction::plan::{DELAYS, Plan};
+use reaction::plan::Plan;
 use sets::transitions;
 use sheet::words::source;
 
@@ -13,7 +13,7 @@ pub fn timer_word(sheet: &[u32], plan: &Plan, t: usize) -> u32
     requires { Planned sheet.now plan.now × (t < t_of sheet.now) }
     ensures { result ≡ timer_word sheet.now t }
 {
-    let d = transitions::low(plan[DELAYS + t]);
+    let d = transitions::low(plan.delays[t]);
     if d == 0 {
         return 0;
     }

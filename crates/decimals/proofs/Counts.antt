@@ -7,9 +7,10 @@ use native.Mathlib.Omega.{arith}
 use lib.Dec.{ltb}
 use lib.ListN.{length, length-set}
 use borrow.Author.Tests.{ltb-true}
-use Rattle.decimals.specs.Numbers.{is_digit, is_gap, longer}
-use Rattle.decimals.specs.Reading.{Reading, Fits, begun, refused, with_digit, with_gap, with_byte}
-use Rattle.decimals.proofs.Steps.{lengthened, put}
+use Rattle.decimals.specs.Numbers.{is_digit, is_gap}
+use Rattle.std.proofs.Common.{Option, None, Some}
+use Rattle.decimals.specs.Reading.{Reading, Fits, begun, refused, with_digit, gap_after, with_gap, with_byte}
+use Rattle.decimals.proofs.Steps.{made, lengthened, put}
 
 pub fits_begun : (words : List ℕ) → Fits (length words) (begun words)
 unfolding begun
@@ -28,18 +29,22 @@ module _ (n : ℕ) where
     fits_digit : (b : ℕ) → Fits n (with_digit x b)
     unfolding with_digit
     fits_digit b =
-        fits_cond (ltb (longer x.value b) (2 ^ 32)) (lengthened x b) (refused x) (record { words = h.words; count = h.count }) fits_refused
+        fits_cond (ltb (made x b) (2 ^ 32)) (lengthened x b) (refused x) (record { words = h.words; count = h.count }) fits_refused
+
+    fits_put : (v : ℕ) (c : Bool) → ltb x.count (length x.words) ≡ c → Fits n (cond c (put x v) (refused x))
+    fits_put v true e =
+        let l = ltb-true x.count (length x.words) e in
+        record { words = simp length-set h.words; count = omega (arith, h.words) }
+    fits_put v false e = fits_refused
+
+    fits_after : (p : Option ℕ) → Fits n (gap_after p x)
+    unfolding gap_after
+    fits_after None = h
+    fits_after (Some v) = fits_put v (ltb x.count (length x.words)) refl
 
     pub fits_gap : Fits n (with_gap x)
     unfolding with_gap
-    fits_gap = go x.pending (ltb x.count (length x.words)) refl
-      where
-        go : (p c : Bool) → ltb x.count (length x.words) ≡ c → Fits n (cond p (cond c (put x) (refused x)) x)
-        go true true e =
-            let l = ltb-true x.count (length x.words) e in
-            record { words = simp length-set h.words; count = omega (arith, h.words) }
-        go true false e = fits_refused
-        go false c e = h
+    fits_gap = fits_after x.pending
 
     pub fits_byte : (b : ℕ) → Fits n (with_byte x b)
     unfolding with_byte

@@ -1,11 +1,12 @@
--- Bytes put into a line: a copy byte by byte, and numbers one after the other. Assumes nothing.
+-- Bytes put into a line: a copy at a place, and numbers one after the other. Assumes nothing.
 use mathlib.Core.Path.{◌≡◌, refl, sym, ap, ◌∙◌}
 use mathlib.Core.List.{List, [], ◌∷◌, ◌++◌, append_assoc}
 use Prim.Native.Nat.{ℕ, suc, ◌+◌, ◌≤◌, ◌<◌}
 use native.Mathlib.Numerals.{add-one}
 use native.Mathlib.Omega.{arith}
 use lib.ListN.{length, get_or, take, drop, set, length-append, take-append-drop, drop_of_length-le}
-use lib.Seq.{length-take-le, paste, paste-suc, drop-cons, take_at, drop_at, drop-drop, drop-set-lt, take-suc-set}
+use lib.Seq.{length-take-le, drop-cons, take_at, drop_at, drop-drop, drop-set-lt, take-suc-set}
+use borrow.Rule.Slice.PartMut.{put_mid}
 use Rattle.rows.specs.Over.{over}
 use Rattle.rows.proofs.OverLaws.{over_def, length_over}
 use Rattle.io.specs.Counts.{IsPrefixLen}
@@ -13,15 +14,11 @@ use Rattle.meaning.specs.Lists.{overwritten}
 use Rattle.meaning.proofs.ListLaws.{drop-later}
 use Rattle.decimals.specs.Printing.{decimal_of, line_of, Put, line_put}
 
--- ---- the first i of the bytes ds at the place `at`
+-- ---- bytes copied to a place
 
-over_paste : (l ds : List ℕ) (at i : ℕ) → i ≤ length ds → over l at (take i ds) ≡ paste l at ds i
-over_paste l ds at i h = over_def l at (take i ds) ∙ rw (length-take-le i ds h)
-
-pub copy_turn : (l ds : List ℕ) (at i : ℕ) → i < length ds → at + i < length l
-    → set (over l at (take i ds)) (at + i) (get_or ds i 0) ≡ over l at (take (i + 1) ds)
-copy_turn l ds at i h k =
-    rw (over_paste l ds at i (omega arith), add-one, over_paste l ds at (suc i) h) (paste-suc l at ds i 0 k h)
+pub put_over : (l ds : List ℕ) (at k : ℕ) → k ≡ length ds → put_mid at k l ds ≡ over l at ds
+unfolding over
+put_over l ds at k e = rw e (simp (append_assoc, drop-drop))
 
 -- ---- what is left of a line, and the byte after a number that stands before the numbers ns
 

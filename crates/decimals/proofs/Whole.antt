@@ -10,15 +10,11 @@ use lib.Dec.{leb}
 use lib.ListN.{length, take, length-set}
 use lib.Seq.{take-suc-set, append_snoc}
 use borrow.Author.Tests.{le-leb, lt-leb}
-use Rattle.decimals.specs.Numbers.{is_digit, is_gap, longer, Numbers, none, no_numbers, closed, numbers_from, numbers_in}
+use Rattle.std.proofs.Common.{Option, None, Some}
+use Rattle.decimals.specs.Numbers.{is_digit, is_gap, Numbers, none, no_numbers, closed, numbers_from, numbers_in}
 use Rattle.decimals.specs.Reading.{Reading, begun, refused, with_gap, with_byte, with_text}
 use Rattle.decimals.specs.Promises.{ReadWhole}
-use Rattle.decimals.proofs.Steps.{lengthened, put, digit_fits, digit_large, gap_none, gap_put, gap_full, byte_digit, byte_gap, byte_other, numbers_digit, numbers_large, numbers_gap, numbers_other}
-
--- the numbers that stand in the words fit there, and no digits make no number
-pub record SoundReading (x : Reading) : Type 0 where
-  pub within : x.count ≤ length x.words
-  pub idle : x.pending ≡ false → x.value ≡ 0
+use Rattle.decimals.proofs.Steps.{made, lengthened, put, digit_fits, digit_large, gap_none, gap_put, gap_full, byte_digit, byte_gap, byte_other, numbers_digit, numbers_large, numbers_gap, numbers_other}
 
 -- from x the numbers n are read, and r is after them: all are put, or it refuses
 pub record Reads (x : Reading) (n : Numbers) (r : Reading) : Type 0 where
@@ -54,89 +50,76 @@ module _ (x r : Reading) where
   }
 
   -- a number put, and then others
-  reads_put : {n : Numbers} → x.count < length x.words → Reads (put x) n r → Reads x (closed true x.value n) r
+  reads_put : (v : ℕ) {n : Numbers} → x.count < length x.words → Reads (put x v) n r → Reads x (closed (Some v) n) r
   unfolding closed
-  reads_put {n} h k =
+  reads_put v {n} h k =
       let w = x.words in
       let more : suc x.count + length n.list ≡ x.count + suc (length n.list) = omega arith in
       record {
         good = rw (length-set, more) at k.good;
-        list = λ e. k.list e ∙ rw (take-suc-set w x.count x.value h) (append_snoc (take x.count w) x.value n.list);
+        list = λ e. k.list e ∙ rw (take-suc-set w x.count v h) (append_snoc (take x.count w) v n.list);
       }
 
--- ---- a sound reading stays sound
+-- a gap, and then the numbers n, which `after` reads from where nothing is pending
+module _
+    (x : Reading)
+    (s : x.count ≤ length x.words)
+    (n : Numbers)
+    (after : Reading → Reading)
+    (reads : (y : Reading) → y.count ≤ length y.words → y.pending ≡ None → Reads y n (after y))
+    (refuses : (after (refused x)).good ≡ false)
+  where
+    reads_gap : (p : Option ℕ) → x.pending ≡ p → Dec (length x.words ≤ x.count) → Reads x (closed p n) (after (with_gap x))
+    unfolding closed
+    reads_gap None e d = rw (gap_none x e) (reads x s e)
+    reads_gap (Some v) e (yes h) = rw (gap_full x v e h) (reads_more x (closed (Some v) n) (after (refused x)) (omega arith) refuses)
+    reads_gap (Some v) e (no h) =
+        let l = lt_of_not-le h in
+        rw (gap_put x v e l) (reads_put x (after (put x v)) v l (reads (put x v) (simp length-set l) refl))
 
-module _ (x : Reading) (s : SoundReading x) where
-  sound_refused : SoundReading (refused x)
-  unfolding refused
-  sound_refused = record { within = s.within; idle = s.idle }
-
-  sound_digit : (b : ℕ) → SoundReading (lengthened x b)
-  sound_digit b = record { within = s.within; idle = λ e. absurd (false≢true (sym e)) }
-
-  sound_put : x.count < length x.words → SoundReading (put x)
-  sound_put h = record { within = simp length-set h; idle = λ _. refl }
-
-  -- a gap, and then the numbers n, which `after` reads from where nothing is pending
-  module _
-      (n : Numbers)
-      (after : Reading → Reading)
-      (reads : (y : Reading) → SoundReading y → y.pending ≡ false → y.value ≡ 0 → Reads y n (after y))
-      (refuses : (after (refused x)).good ≡ false)
-    where
-      reads_gap : (p : Bool) → x.pending ≡ p → Dec (length x.words ≤ x.count) → Reads x (closed p x.value n) (after (with_gap x))
-      unfolding closed
-      reads_gap false e d = rw (gap_none x e) (reads x s e (s.idle e))
-      reads_gap true e (yes h) = rw (gap_full x e h) (reads_more x (closed true x.value n) (after (refused x)) (omega arith) refuses)
-      reads_gap true e (no h) =
-          let l = lt_of_not-le h in
-          rw (gap_put x e l) (reads_put x (after (put x)) l (reads (put x) (sound_put l) refl refl))
-
--- ---- a text read from a sound reading
+-- ---- a text read from where no more numbers are counted than there are words
 
 abbrev From : List ℕ → Type 0
-From text = (x : Reading) → SoundReading x → Reads x (numbers_from x.pending x.value text) (with_gap (with_text x text))
+From text = (x : Reading) → x.count ≤ length x.words → Reads x (numbers_from x.pending text) (with_gap (with_text x text))
 
-module _ (bs : List ℕ) (rest : From bs) (x : Reading) (s : SoundReading x) (b : ℕ) where
-  off : Reads (refused x) (numbers_from (refused x).pending (refused x).value bs) (with_gap (with_text (refused x) bs))
-  off = rest (refused x) (sound_refused x s)
+module _ (bs : List ℕ) (rest : From bs) (x : Reading) (s : x.count ≤ length x.words) (b : ℕ) where
+  off : Reads (refused x) (numbers_from (refused x).pending bs) (with_gap (with_text (refused x) bs))
+  unfolding refused
+  off = rest (refused x) s
 
   abbrev Here : Type 0
-  Here = Reads x (numbers_from x.pending x.value (b ∷ bs)) (with_gap (with_text (with_byte x b) bs))
+  Here = Reads x (numbers_from x.pending (b ∷ bs)) (with_gap (with_text (with_byte x b) bs))
 
-  by_digit : is_digit b ≡ true → Dec (2 ^ 32 ≤ longer x.value b) → Here
+  by_digit : is_digit b ≡ true → Dec (2 ^ 32 ≤ made x b) → Here
   by_digit d (yes h) =
-      rw (numbers_large x.pending x.value b bs d h, byte_digit x b d, digit_large x b h)
+      rw (numbers_large x.pending b bs d h, byte_digit x b d, digit_large x b h)
       (reads_refused x (with_gap (with_text (refused x) bs)) off)
   by_digit d (no h) =
       let l = lt_of_not-le h in
-      let k = rest (lengthened x b) (sound_digit x s b) in
-      rw (numbers_digit x.pending x.value b bs d l, byte_digit x b d, digit_fits x b l)
+      let k = rest (lengthened x b) s in
+      rw (numbers_digit x.pending b bs d l, byte_digit x b d, digit_fits x b l)
       record { good = k.good; list = k.list }
 
-  from_idle : (y : Reading) → SoundReading y → y.pending ≡ false → y.value ≡ 0 → Reads y (numbers_from false 0 bs) (with_gap (with_text y bs))
-  from_idle y t p v =
-      let same : numbers_from y.pending y.value bs ≡ numbers_from false 0 bs = rw (p, v) in
-      subst (λ (n : Numbers). Reads y n (with_gap (with_text y bs))) same (rest y t)
+  from_idle : (y : Reading) → y.count ≤ length y.words → y.pending ≡ None → Reads y (numbers_from None bs) (with_gap (with_text y bs))
+  from_idle y t p = subst (λ (q : Option ℕ). Reads y (numbers_from q bs) (with_gap (with_text y bs))) p (rest y t)
 
   by_byte : (d g : Bool) → is_digit b ≡ d → is_gap b ≡ g → Here
-  by_byte true g d e = by_digit d (dec_le (2 ^ 32) (longer x.value b))
+  by_byte true g d e = by_digit d (dec_le (2 ^ 32) (made x b))
   by_byte false true d e =
-      rw (numbers_gap x.pending x.value b bs d e, byte_gap x b d e)
-      (reads_gap x s (numbers_from false 0 bs) (λ y. with_gap (with_text y bs)) from_idle
+      rw (numbers_gap x.pending b bs d e, byte_gap x b d e)
+      (reads_gap x s (numbers_from None bs) (λ y. with_gap (with_text y bs)) from_idle
       (stays_refused x (with_gap (with_text (refused x) bs)) off) x.pending refl (dec_le (length x.words) x.count))
   by_byte false false d e =
-      rw (numbers_other x.pending x.value b bs d e, byte_other x b d e)
+      rw (numbers_other x.pending b bs d e, byte_other x b d e)
       (reads_refused x (with_gap (with_text (refused x) bs)) off)
 
 pub text_reads : (text : List ℕ) → From text
 unfolding with_text numbers_from refused
-text_reads [] x s =
-    reads_gap x s none (λ y. y) (λ y t _ _. reads_none y t.within) refl x.pending refl (dec_le (length x.words) x.count)
+text_reads [] x s = reads_gap x s none (λ y. y) (λ y t _. reads_none y t) refl x.pending refl (dec_le (length x.words) x.count)
 text_reads (b ∷ bs) x s = by_byte bs (text_reads bs) x s b (is_digit b) (is_gap b) refl refl
 
 pub read_whole_lem : ReadWhole
 unfolding ReadWhole begun numbers_in
 read_whole_lem text words =
-    let k = text_reads text (begun words) record { within = zero-le; idle = λ _. refl } in
+    let k = text_reads text (begun words) zero-le in
     (rw zero-add at k.good, k.list)

@@ -1,5 +1,5 @@
 -- What a text says: "decimals below 2^32 (leading zeros allowed), with spaces or line feeds between and around them". Assumes nothing.
-use Rattle.std.specs.Prelude.{Bool, true, false, ◌&&◌, ◌||◌, cond, List, [], ◌∷◌, ℕ, ◌+◌, ◌-◌, ◌*◌, ◌^◌, eqb, leb, ltb}
+use Rattle.std.specs.Prelude.{Bool, true, false, ◌&&◌, ◌||◌, cond, Option, None, Some, unwrap_or, List, [], ◌∷◌, ℕ, ◌+◌, ◌-◌, ◌*◌, ◌^◌, eqb, leb, ltb}
 
 -- a byte that is a digit; a space or a line feed
 unfoldable pub is_digit : ℕ → Bool
@@ -23,18 +23,19 @@ none = record { good = true; list = [] }
 unfoldable pub no_numbers : Numbers
 no_numbers = record { good = false; list = [] }
 
--- where digits are pending, their number v comes before those of the rest
-unfoldable pub closed : Bool → ℕ → Numbers → Numbers
-closed true v rest = record { good = rest.good; list = v ∷ rest.list }
-closed false v rest = rest
+-- the number that pending digits make, if any are pending: it comes before those of the rest
+unfoldable pub closed : Option ℕ → Numbers → Numbers
+closed (Some v) rest = record { good = rest.good; list = v ∷ rest.list }
+closed None rest = rest
 
--- the numbers of a text, after digits that make v if digits are pending
-unfoldable pub numbers_from : Bool → ℕ → List ℕ → Numbers
-numbers_from pending v [] = closed pending v none
-numbers_from pending v (b ∷ bs) =
-    let on = numbers_from true (longer v b) bs in
-    let next = closed pending v (numbers_from false 0 bs) in
-    cond (is_digit b) (cond (ltb (longer v b) (2 ^ 32)) on no_numbers) (cond (is_gap b) next no_numbers)
+-- the numbers of a text, after the pending digits
+unfoldable pub numbers_from : Option ℕ → List ℕ → Numbers
+numbers_from pending [] = closed pending none
+numbers_from pending (b ∷ bs) =
+    let v = longer (unwrap_or pending 0) b in
+    let on = numbers_from (Some v) bs in
+    let next = closed pending (numbers_from None bs) in
+    cond (is_digit b) (cond (ltb v (2 ^ 32)) on no_numbers) (cond (is_gap b) next no_numbers)
 
 unfoldable pub numbers_in : List ℕ → Numbers
-numbers_in text = numbers_from false 0 text
+numbers_in text = numbers_from None text

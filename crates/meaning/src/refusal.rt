@@ -1,60 +1,43 @@
-// Why a call is refused, and the number that the documents give it. Each number up to the highest has its variant, in order, so
-// that the number is the variant's place.
+// Why a call is refused, and the number that the documents give it.
 ghost use Rattle.std.specs.Prelude.{◌≡◌};
-ghost use Rattle.meaning.specs.Refusal.{number_of};
+ghost use Rattle.meaning.specs.Refusal.{number_of, number_or_0};
 
-#[derive(Clone, Copy)]
+#[derive(Clone, Copy, Debug, PartialEq, Eq)]
 pub enum Refusal {
-    Nothing,
-    Head,
-    ModeRow,
-    Pair,
-    Ends,
-    Term,
-    SharedEnds,
-    TooManyTimers,
-    Ambiguous,
-    Restless,
-    ShortTable,
-    FullWorkList,
-    ShortOutput,
-    InputSet,
-    State,
-    Layout,
-    Transition,
-    Unfaithful,
-    Stations,
-    Parts,
-    TickRange,
-    IdleArrow,
+    Head = 1,
+    ModeRow = 2,
+    Pair = 3,
+    Ends = 4,
+    Term = 5,
+    SharedEnds = 6,
+    TooManyTimers = 7,
+    Ambiguous = 8,
+    Restless = 9,
+    ShortTable = 10,
+    FullWorkList = 11,
+    ShortOutput = 12,
+    InputSet = 13,
+    State = 14,
+    Layout = 15,
+    Transition = 16,
+    Unfaithful = 17,
+    Stations = 18,
+    Parts = 19,
+    TickRange = 20,
+    IdleArrow = 21,
 }
 
-// The number of a refusal, 0 for none.
-pub fn number(why: Refusal) -> u32
-    ensures { result ≡ number_of why }
-{
-    match why {
-        Refusal::Nothing => 0,
-        Refusal::Head => 1,
-        Refusal::ModeRow => 2,
-        Refusal::Pair => 3,
-        Refusal::Ends => 4,
-        Refusal::Term => 5,
-        Refusal::SharedEnds => 6,
-        Refusal::TooManyTimers => 7,
-        Refusal::Ambiguous => 8,
-        Refusal::Restless => 9,
-        Refusal::ShortTable => 10,
-        Refusal::FullWorkList => 11,
-        Refusal::ShortOutput => 12,
-        Refusal::InputSet => 13,
-        Refusal::State => 14,
-        Refusal::Layout => 15,
-        Refusal::Transition => 16,
-        Refusal::Unfaithful => 17,
-        Refusal::Stations => 18,
-        Refusal::Parts => 19,
-        Refusal::TickRange => 20,
-        Refusal::IdleArrow => 21,
+impl From<Refusal> for u32 {
+    ghost from_gives = { λ why n. n ≡ number_of why };
+
+    fn from(why: Refusal) -> u32 {
+        why as u32
     }
+}
+
+// The number of a refusal that there may be, 0 for none.
+pub fn number(refusal: Option<Refusal>) -> u32
+    ensures { result ≡ number_or_0 refusal }
+{
+    refusal.map_or(0, u32::from)
 }

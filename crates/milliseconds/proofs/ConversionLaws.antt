@@ -1,10 +1,10 @@
 -- The longest delay, the words put pair by pair, and the conversion's answer. Assumes nothing.
 use mathlib.Core.Path.{◌≡◌, refl, sym, ap, ◌∙◌}
-use mathlib.Core.Logic.{⊎_elim, ◌↔◌}
-use mathlib.Core.Bool.{Bool, true, false, ◌||◌, or_comm}
+use mathlib.Core.Logic.{◌⊎◌, inl, inr, ⊎_elim, ◌↔◌}
+use mathlib.Core.Bool.{true, false}
 use mathlib.Core.List.{List, [], ◌∷◌}
-use Prim.Native.Nat.{ℕ, suc, ◌+◌, ◌-◌, ◌*◌, ◌/◌, ◌%◌, ◌≤◌, ◌<◌, zero-le}
-use native.Mathlib.Nat.{le-div_iff_mul-le, lt_of_lt_of_le, le_of_lt, mul-pos}
+use Prim.Native.Nat.{ℕ, zero, suc, max, ◌+◌, ◌-◌, ◌*◌, ◌/◌, ◌%◌, ◌≤◌, ◌<◌}
+use native.Mathlib.Nat.{le_refl, le-div_iff_mul-le, mul-pos}
 use native.Mathlib.Numerals.{add-one}
 use native.Mathlib.Omega.{arith}
 use lib.Dec.{ltb, lt→ltb, ltb→lt}
@@ -12,7 +12,10 @@ use lib.ListN.{length, get_or, drop}
 use lib.Seq.{drop-cons, drop-length}
 use borrow.Author.Tests.{eq-eqb, ne_eqb, lt-ltb, le-ltb}
 use Rattle.sets.specs.Sets.{some}
-use Rattle.sets.proofs.Tests.{bool_ext, or_e, or_l}
+use Rattle.std.specs.List.{fold, reduce}
+use Rattle.std.specs.Option.{unwrap_or}
+use Rattle.sets.proofs.Tests.{bool_ext, below_or_not}
+use Rattle.sets.proofs.Facts.{some_e, some_i}
 use Rattle.sets.proofs.Quantifiers.{some_same}
 use Rattle.rows.specs.Over.{over}
 use Rattle.rows.proofs.OverLaws.{over_nil, over_front, over_more}
@@ -25,27 +28,41 @@ use Rattle.meaning.specs.Milliseconds.{ticks_and_rests, results_short, ticks_out
 abbrev pub Longest : List ℕ → ℕ → ℕ → Type 0
 Longest l i most = (n : ℕ) → some i (λ j. ltb n (get_or l j 0)) ≡ ltb n most
 
--- of two numbers the larger one decides
-larger_decides : (n a b : ℕ) → a ≤ b → (ltb n b || ltb n a) ≡ ltb n b
-larger_decides n a b k =
-    bool_ext (ltb n b || ltb n a) (ltb n b)
-    (λ h. ⊎_elim (λ x. x) (λ x. lt→ltb n b (lt_of_lt_of_le (ltb→lt n a x) k)) (or_e (ltb n b) (ltb n a) h)) (λ h. or_l (ltb n b) (ltb n a) h)
+-- the largest of a and some words is at least each, and one of them
+grown : (a : ℕ) (l : List ℕ) → a ≤ fold max a l
+grown a [] = le_refl a
+grown a (x ∷ l) = omega (arith, grown (max a x) l)
 
-module _ (l : List ℕ) where
-  pub longest_start : Longest l 0 0
-  unfolding some
-  longest_start n = sym (le-ltb n 0 zero-le)
+among : (a : ℕ) (l : List ℕ) (i : ℕ) → i < length l → get_or l i 0 ≤ fold max a l
+among a [] i k = absurd (omega arith)
+among a (x ∷ l) zero k = omega (arith, grown (max a x) l)
+among a (x ∷ l) (suc i) k = among (max a x) l i (omega arith)
 
-  -- one word more: it is longer, or it is not
-  pub longest_more : (i most next : ℕ) → Longest l i most → next ≡ get_or l i 0 → most < get_or l i 0 → Longest l (i + 1) next
-  unfolding some
-  longest_more i most next h e k n = rw (add-one, e) (ap (λ (b : Bool). ltb n (get_or l i 0) || b) (h n) ∙ larger_decides n most (get_or l i 0) (le_of_lt k))
+reached : (n a : ℕ) (l : List ℕ) → n < fold max a l → (n < a) ⊎ ((i : ℕ) × (i < length l) × (n < get_or l i 0))
+reached n a [] h = inl h
+reached n a (x ∷ l) h = go (reached n (max a x) l h) (below_or_not n a)
+  where
+    go : (n < max a x) ⊎ ((i : ℕ) × (i < length l) × (n < get_or l i 0)) → (n < a) ⊎ (a ≤ n)
+        → (n < a) ⊎ ((i : ℕ) × (i < suc (length l)) × (n < get_or (x ∷ l) i 0))
+    go (inl k) (inl j) = inl j
+    go (inl k) (inr j) = inr (0, omega arith, omega arith)
+    go (inr r) j = inr (suc r.0, omega (arith, r.1), r.2)
 
-  pub longest_same : (i most next : ℕ) → Longest l i most → next ≡ most → get_or l i 0 ≤ most → Longest l (i + 1) next
-  unfolding some
-  longest_same i most next h e k n =
-      rw (add-one, e)
-      (ap (λ (b : Bool). ltb n (get_or l i 0) || b) (h n) ∙ or_comm (ltb n (get_or l i 0)) (ltb n most) ∙ larger_decides n (get_or l i 0) most k)
+pub longest_is : (l : List ℕ) → Longest l (length l) (fold max 0 l)
+longest_is l n =
+    bool_ext (some (length l) (λ i. ltb n (get_or l i 0))) (ltb n (fold max 0 l))
+    (λ h.
+    let r = some_e (length l) (λ i. ltb n (get_or l i 0)) h in
+    lt→ltb n (fold max 0 l) (omega (arith, among 0 l r.0 r.1, ltb→lt n (get_or l r.0 0) r.2)))
+    (λ h.
+    ⊎_elim (λ k. absurd (omega arith))
+    (λ r. some_i (length l) (λ i. ltb n (get_or l i 0)) r.0 r.1 (lt→ltb n (get_or l r.0 0) r.2))
+    (reached n 0 l (ltb→lt n (fold max 0 l) h)))
+
+-- the largest of the words, 0 if there is none
+pub longest_or_0 : (l : List ℕ) → unwrap_or (reduce max l) 0 ≡ fold max 0 l
+longest_or_0 [] = refl
+longest_or_0 (x ∷ l) = ap (λ (a : ℕ). fold max a l) (omega arith)
 
 -- ---- the words of the delays that are left, put after those that are done
 

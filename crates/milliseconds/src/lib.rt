@@ -5,7 +5,7 @@ ghost use Rattle.std.specs.Prelude.{◌≡◌, ℕ, ◌*◌, ◌≤◌, ◌<◌,
 ghost use Rattle.sets.specs.Sets.{some};
 ghost use Rattle.rows.specs.Over.{over};
 ghost use Rattle.meaning.specs.Milliseconds.{ticks_and_rests, milliseconds};
-ghost use Rattle.meaning.specs.Refusal.{number_of};
+ghost use Rattle.meaning.specs.Refusal.{err_or_0};
 
 use meaning::refusal::Refusal;
 use rows::put_pair;
@@ -17,15 +17,7 @@ const MOST_TICKS: u32 = 65535;
 fn longest(delays: &[u32]) -> u32
     ensures { (n : ℕ) → some (length delays.now) (λ i. ltb n (get_or delays.now i 0)) ≡ ltb n result }
 {
-    let mut most = 0;
-    let mut i = 0;
-    while i < delays.len() {
-        if most < delays[i] {
-            most = delays[i];
-        }
-        i += 1;
-    }
-    most
+    delays.iter().copied().max().unwrap_or(0)
 }
 
 // Each delay's ticks and rest.
@@ -33,26 +25,23 @@ fn put_all(tick: u32, delays: &[u32], results: &mut [u32])
     requires { (0 < tick) × (2 * length delays.now ≤ length results.old) }
     ensures { results.new ≡ over results.old 0 (ticks_and_rests tick delays.now) }
 {
-    let mut i = 0;
-    while i < delays.len() {
-        let delay = delays[i];
+    for (i, &delay) in delays.iter().enumerate() {
         put_pair(results, 2 * i, delay / tick, delay % tick);
-        i += 1;
     }
 }
 
 // The delays in ticks: delay i has its ticks at word 2i of the results, its rest at 2i + 1. A delay shorter than the tick is 0
 // ticks.
-pub fn in_ticks(tick: u32, delays: &[u32], results: &mut [u32]) -> Refusal
-    ensures { record { refusal = number_of result; results = results.new }
+pub fn in_ticks(tick: u32, delays: &[u32], results: &mut [u32]) -> Result<(), Refusal>
+    ensures { record { refusal = err_or_0 result; results = results.new }
         ≡ milliseconds tick delays.now results.old }
 {
     if results.len() / 2 < delays.len() {
-        return Refusal::ShortOutput;
+        return Err(Refusal::ShortOutput);
     }
     if tick == 0 || MOST_TICKS < longest(delays) / tick {
-        return Refusal::TickRange;
+        return Err(Refusal::TickRange);
     }
     put_all(tick, delays, results);
-    Refusal::Nothing
+    Ok(())
 }

@@ -1,15 +1,14 @@
 -- What each call answers and leaves: too few words lent, and otherwise. Assumes nothing.
-use mathlib.Core.Path.{◌≡◌, refl, sym, ap, ◌∙◌}
+use mathlib.Core.Path.{◌≡◌, refl, ap, ◌∙◌}
 use mathlib.Core.Logic.{◌⊎◌, inl, inr}
 use mathlib.Core.Bool.{Bool, true, false, or-true, cond}
 use mathlib.Core.List.{List, [], ◌∷◌, ◌++◌}
 use Prim.Native.Nat.{ℕ, ◌+◌, ◌*◌, ◌/◌, ◌%◌, ◌^◌, ◌≤◌, ◌<◌}
 use native.Mathlib.Nat.{zero-add}
-use native.Mathlib.Numerals.{add-one}
 use native.Mathlib.Omega.{arith}
 use lib.Dec.{eqb, ltb}
-use lib.ListN.{length, drop, get_or, set}
-use lib.Seq.{sets, sets-eq, paste, paste-suc, take_all}
+use lib.ListN.{length, drop}
+use lib.Seq.{sets, sets-eq}
 use borrow.Author.Tests.{eqb-true, eqb-false, lt-ltb, le-ltb}
 use Rattle.meaning.specs.Lists.{overwritten}
 use Rattle.meaning.specs.Run.{State, Run}
@@ -26,14 +25,10 @@ pub sets_front : (vs l : List ℕ) → length vs ≤ length l → sets l 0 vs �
 unfolding overwritten
 sets_front vs l h = sets-eq vs l 0 (omega arith) ∙ ap (λ (n : ℕ). vs ++ drop n l) (zero-add (length vs))
 
--- words put one by one at the front
-pub front_turn : (lent words : List ℕ) (i : ℕ) → i < length lent → i < length words → set (paste lent 0 words i) i (get_or words i 0) ≡ paste lent 0 words (i + 1)
-front_turn lent words i h k =
-    rw (add-one i) (ap (λ (j : ℕ). set (paste lent 0 words i) j (get_or words i 0)) (sym (zero-add i)) ∙ paste-suc lent 0 words i 0 (omega arith) k)
-
-pub front_all : (lent words : List ℕ) (i : ℕ) → i ≡ length words → i ≤ length lent → paste lent 0 words i ≡ overwritten words lent
+-- words copied to the front
+pub front_put : (lent words : List ℕ) {put : List ℕ} (k : ℕ) → length words ≡ k → put ≡ words → put ++ drop k lent ≡ overwritten words lent
 unfolding overwritten
-front_all lent words i e h = rw (take_all i words (omega arith), zero-add, e)
+front_put lent words k e p = rw (← e, p) refl
 
 -- ---- masks
 

@@ -9,12 +9,12 @@ ghost use Rattle.meaning.specs.Check.{sheet_refusal};
 ghost use Rattle.meaning.specs.Table.{table_ok};
 ghost use Rattle.meaning.specs.Acceptance.{accept_refusal};
 ghost use Rattle.meaning.specs.Milliseconds.{milliseconds};
-ghost use Rattle.meaning.specs.Refusal.{number_of};
+ghost use Rattle.meaning.specs.Refusal.{number_of, number_or_0};
 ghost use Rattle.meaning.specs.Stations.{serve_stations};
 ghost use Rattle.stations.specs.Stations.{stations_of};
 ghost use Rattle.native.specs.Calls.{compile_call, within_call, sheet_call, table_call, why_call};
 
-use meaning::refusal::number;
+use meaning::refusal::{Refusal, number};
 use reaction::why::Why;
 use run::state::{STATE_WORDS, from_words, put_state};
 use sheet::within::masks_of;
@@ -27,7 +27,7 @@ const NOTHING_DONE: u32 = 4294967295;
 pub extern "C" fn modechart_check(sheet: &[u32]) -> u32
     ensures { result ≡ sheet_refusal sheet.now }
 {
-    number(sheet::check(sheet))
+    number(sheet::check(sheet).err())
 }
 
 // info: f, the table's length.
@@ -45,10 +45,9 @@ pub extern "C" fn modechart_compile(
         return NOTHING_DONE;
     }
     let c = compiler::compile(sheet, table, work);
-    let why = c.refusal;
     info[0] = c.f as u64;
-    info[1] = c.table_length as u64;
-    number(why)
+    info[1] = c.table_length.unwrap_or(0) as u64;
+    number(c.table_length.err())
 }
 
 #[unsafe(no_mangle)]
@@ -58,7 +57,7 @@ pub extern "C" fn modechart_check_table(table: &[u32]) -> u32
     if table::table_ok(table) {
         return 0;
     }
-    15
+    u32::from(Refusal::Layout)
 }
 
 // A table from elsewhere against its sheet; nothing is lent.
@@ -66,19 +65,7 @@ pub extern "C" fn modechart_check_table(table: &[u32]) -> u32
 pub extern "C" fn modechart_accept(sheet: &[u32], table: &[u32]) -> u32
     ensures { result ≡ accept_refusal sheet.now table.now }
 {
-    number(acceptance::accept(sheet, table))
-}
-
-// Words put at the front of lent ones; those after them stay.
-fn put_front(lent: &mut [u32], words: &[u32; 32])
-    requires { (length words.now ≡ 32) × (32 ≤ length lent.old) }
-    ensures { lent.new ≡ overwritten words.now lent.old }
-{
-    let mut i = 0;
-    while i < 32 {
-        lent[i] = words[i];
-        i += 1;
-    }
+    number(acceptance::accept(sheet, table).err())
 }
 
 // masks: 32 words, of each mode the modes strictly within it, 0 for a number that is no mode. A refusal leaves them as they were.
@@ -90,14 +77,13 @@ pub extern "C" fn modechart_within(sheet: &[u32], masks: &mut [u32]) -> u32
     if masks.len() < 32 {
         return NOTHING_DONE;
     }
-    let given = masks_of(sheet);
-    let why = given.refusal;
-    let words = given.masks;
-    let answer = number(why);
-    if answer == 0 {
-        put_front(masks, &words);
+    match masks_of(sheet) {
+        Ok(given) => {
+            masks[..32].copy_from_slice(&given);
+            0
+        }
+        Err(why) => u32::from(why),
     }
-    answer
 }
 
 #[unsafe(no_mangle)]
@@ -105,7 +91,7 @@ pub extern "C" fn modechart_milliseconds(tick: u32, delays: &[u32], results: &mu
     ensures { record { refusal = result; results = results.new }
         ≡ milliseconds tick delays.now results.old }
 {
-    number(milliseconds::in_ticks(tick, delays, results))
+    number(milliseconds::in_ticks(tick, delays, results).err())
 }
 
 // numbers: 64 bytes for each input set. info: ticks done, the total of rounds (whole times 2^32, and the rest).
@@ -129,12 +115,11 @@ pub extern "C" fn modechart_sheet_run(
         return NOTHING_DONE;
     }
     let ran = simulator::sheet_run::run(sheet, from_words(state), inputs, out, numbers);
-    let why = ran.refusal;
     info[0] = ran.done.0 as u64;
     info[1] = ran.rounds.0;
     info[2] = ran.rounds.1;
     put_state(state, ran.state);
-    number(why)
+    number(ran.refusal)
 }
 
 // info: ticks done.
@@ -153,19 +138,17 @@ pub extern "C" fn modechart_table_run(
         return NOTHING_DONE;
     }
     let ran = recorder::table_run::run(table, from_words(state), inputs, out);
-    let why = ran.refusal;
     info[0] = ran.done.0 as u64;
     put_state(state, ran.state);
-    number(why)
+    number(ran.refusal)
 }
 
 // The allowance spent, stored; answers the refusal's number.
 fn put_served(served: Served, spent: &mut u64) -> u32
-    ensures { (result ≡ number_of served.refusal) × (spent.new ≡ served.spent) }
+    ensures { (result ≡ number_or_0 served.refusal) × (spent.new ≡ served.spent) }
 {
-    let why = served.refusal;
     *spent = served.spent;
-    number(why)
+    number(served.refusal)
 }
 
 // A station is 103 words: its state's 97, position, stopped mark, start and length of its part of the input list, start and length of its
@@ -219,12 +202,11 @@ pub extern "C" fn modechart_why(
     if info.len() < 3 || state.len() < STATE_WORDS {
         return NOTHING_DONE;
     }
-    let why = simulator::why::why(sheet, from_words(state), input, transition);
-    match why {
-        Why::Refused(refusal) => number(refusal),
-        Why::NeverActive => put_reason(info, 0, 0, 0),
-        Why::NeverTriggered => put_reason(info, 1, 0, 0),
-        Why::GaveWay(to) => put_reason(info, 2, to, 0),
-        Why::Taken(round, alternative) => put_reason(info, 3, round, alternative as u32),
+    match simulator::why::why(sheet, from_words(state), input, transition) {
+        Err(refusal) => u32::from(refusal),
+        Ok(Why::NeverActive) => put_reason(info, 0, 0, 0),
+        Ok(Why::NeverTriggered) => put_reason(info, 1, 0, 0),
+        Ok(Why::GaveWay(to)) => put_reason(info, 2, to, 0),
+        Ok(Why::Taken(round, alternative)) => put_reason(info, 3, round, alternative as u32),
     }
 }

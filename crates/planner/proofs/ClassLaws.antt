@@ -4,29 +4,26 @@ use mathlib.Core.Path.{◌≡◌, refl, sym, ap, ap₂, ◌∙◌}
 use mathlib.Core.Logic.{⊎_elim}
 use mathlib.Core.Bool.{Bool, true, false, not, ◌&&◌, ◌||◌, cond}
 use mathlib.Core.List.{List}
-use Prim.Native.Nat.{ℕ, ◌+◌, ◌≤◌, ◌<◌}
+use Prim.Native.Nat.{ℕ, ◌<◌}
 use native.Mathlib.Nat.{eq-zero-or-pos, lt_of_le_of_lt}
 use native.Mathlib.Omega.{arith}
 use lib.Dec.{eqb, ltb}
-use lib.ListN.{length, set}
+use lib.ListN.{length, set, replicate}
 use borrow.Author.Tests.{eq-eqb, lt-ltb, le-ltb}
 use Rattle.sets.specs.Sets.{has, union, minus, below, those}
 use Rattle.sets.proofs.Tests.{of_true}
 use Rattle.sets.proofs.Facts.{set_of_e}
 use Rattle.sets.proofs.Membership.{has_none, has-union, has-minus, has_below, below_lt, minus-le, has-set_of, set_of_ext, those_same}
 use Rattle.sets.proofs.Members.{Turn, without_it, without_other}
-use Rattle.rows.specs.Over.{over}
-use Rattle.meaning.specs.Lists.{row_from}
 use Rattle.meaning.specs.Sheet.{t_of, source}
 use Rattle.meaning.specs.Check.{sheet_refusal}
 use Rattle.meaning.specs.Reaction.{is_delay, delay, is_timer}
-use Rattle.meaning.proofs.ListLaws.{row_from_ext}
 use Rattle.meaning.proofs.SheetLaws.{sound, n_le, source-lt}
-use Rattle.reaction.specs.Plan.{delays_part, timers, timer_delay, events_only, mixed, early}
+use Rattle.reaction.specs.Plan.{timers, timer_delay, events_only, mixed, early}
 use Rattle.reaction.specs.Facts.{open_facts, alternative_by}
 use Rattle.reaction.proofs.TriggerLaws.{mixed_asks}
-use Rattle.planner.specs.Parts.{WordsAt, is_sure, sure}
-use Rattle.planner.proofs.PartLaws.{part_same, part_set}
+use Rattle.planner.specs.Parts.{Words, is_sure, sure}
+use Rattle.planner.proofs.WordLaws.{zero_words, word_stored}
 
 -- neither a timer nor a sure one, of a transition that is one of delay v or not (d), or has event terms alone (e)
 neither : (v : ℕ) (d e : Bool) → not (d && ltb 0 v || cond d (eqb v 0) e) ≡ (not d && not e)
@@ -68,29 +65,25 @@ module _ (s : List ℕ) where
   unfolding timers
   timer_lt t e h = (set_of_e (t_of s) (is_timer s) t (of_true (ap (λ (y : ℕ). has y t) (sym e) ∙ h))).0
 
-  -- word t of DELAYS while the timers of `rest` are to come
+  -- the delay of t while the timers of `rest` are to come
   abbrev pub delays_but : ℕ → ℕ → ℕ
   delays_but rest t = cond (has rest t) 0 (timer_delay s t)
 
-  pub delays_start : {x : ℕ} (l : List ℕ) → x ≡ timers s → delays_part + 64 ≤ length l → WordsAt l delays_part 64 (λ _. 0)
-      → l ≡ over l delays_part (row_from 0 64 (delays_but x))
-  delays_start l e h p = part_same l delays_part 64 (delays_but _) h (λ t k. p t k ∙ rw e (none (has (timers s) t) (delay s t)))
+  pub delays_start : {x : ℕ} {l : List ℕ} → x ≡ timers s → l ≡ replicate 64 0 → Words l 64 (delays_but x)
+  delays_start {x} e z = zero_words 64 (delays_but x) z (λ t. rw e (none (has (timers s) t) (delay s t)))
     where
-      none : (b : Bool) (d : ℕ) → 0 ≡ cond b 0 (cond b d 0)
+      none : (b : Bool) (d : ℕ) → cond b 0 (cond b d 0) ≡ 0
       none true d = refl
       none false d = refl
 
-  pub delays_turn : {x rest t r v : ℕ} (l : List ℕ) {m : List ℕ} → delays_part + 64 ≤ length l → x ≡ timers s → Turn 64 rest t r → has x t ≡ true
-      → m ≡ over l delays_part (row_from 0 64 (delays_but rest)) → v ≡ delay s t
-      → set m (delays_part + t) v ≡ over l delays_part (row_from 0 64 (delays_but r))
-  delays_turn {x} {rest} {t} {r} {v} l {m} h e u k p q =
-      ap₂ (λ (n : List ℕ) (y : ℕ). set n (delays_part + t) y) p (q ∙ sym here)
-      ∙ part_set l delays_part 64 (delays_but rest) (delays_but r) t h u.lowest.small
-      (λ j n. ap (λ (b : Bool). cond b 0 (timer_delay s j)) (sym (ap (λ (y : ℕ). has y j) u.removed ∙ without_other rest t j n)))
+  pub delays_turn : {x rest t r v : ℕ} (l : List ℕ) → t < length l → x ≡ timers s → Turn 64 rest t r → has x t ≡ true → Words l 64 (delays_but rest) → v ≡ delay s t
+      → Words (set l t v) 64 (delays_but r)
+  delays_turn {x} {rest} {t} {r} l room e u k w q =
+      word_stored (delays_but rest) (delays_but r) l 64 t room (q ∙ sym here)
+      (λ j n. ap (λ (b : Bool). cond b 0 (timer_delay s j)) (sym (ap (λ (y : ℕ). has y j) u.removed ∙ without_other rest t j n))) w
     where
       here : delays_but r t ≡ delay s t
       here = rw (ap (λ (y : ℕ). has y t) u.removed ∙ without_it rest t, ← e, k)
 
-  pub delays_done : {rest : ℕ} (l : List ℕ) → rest ≡ 0 → over l delays_part (row_from 0 64 (delays_but rest)) ≡ over l delays_part (row_from 0 64 (timer_delay s))
-  delays_done {rest} l e =
-      ap (over l delays_part) (row_from_ext (delays_but rest) (timer_delay s) 0 64 (λ t a b. rw (e, has_none t)))
+  pub delays_done : {rest : ℕ} (l : List ℕ) → rest ≡ 0 → Words l 64 (delays_but rest) → Words l 64 (timer_delay s)
+  delays_done l e w t k = w t k ∙ rw (e, has_none t)

@@ -1,17 +1,16 @@
 -- Meeting modes of the transitions, the transitions of each meeting mode, and conflict and giving way by the words of what is within a
 -- mode and of what contains it. Assumes nothing.
-use mathlib.Core.Path.{◌≡◌, sym, ap, ap₂, ◌∙◌}
+use mathlib.Core.Path.{◌≡◌, sym, ap₂, ◌∙◌}
 use mathlib.Core.Bool.{Bool, not, ◌&&◌, ◌||◌, and_comm}
 use mathlib.Core.List.{List}
 use Prim.Native.Nat.{ℕ, ◌+◌, ◌<◌}
 use native.Mathlib.Nat.{lt_of_le_of_lt}
 use lib.Dec.{eqb}
-use lib.ListN.{length, get_or, set, replicate}
+use lib.ListN.{length, get_or, set}
 use borrow.Author.Tests.{eq-eqb, ne_eqb}
 use Rattle.sets.specs.Sets.{union, minus, single, set_of}
 use Rattle.sets.proofs.Tests.{eqb-sym}
-use Rattle.sets.proofs.Membership.{has-union, has-minus, has-single, has-set_of, union-lt, minus-le, set_of-lt, set_of_ext, set_of-add, set_of_skip}
-use Rattle.sets.proofs.Loops.{get_or_zeros, set_word, set_of_none, set_of_width}
+use Rattle.sets.proofs.Membership.{has-union, has-minus, has-single, has-set_of, union-lt, minus-le, set_of-lt, set_of_ext}
 use Rattle.meaning.specs.Sheet.{n_of, t_of, contains, strictly_contains, meeting}
 use Rattle.meaning.specs.Check.{sheet_refusal}
 use Rattle.meaning.specs.GivesWay.{gives_way}
@@ -22,7 +21,8 @@ use Rattle.sheet.proofs.Past.{mode_small}
 use Rattle.hierarchy.specs.Unions.{UnionWithin, UnionContainers}
 use Rattle.hierarchy.proofs.UnionLaws.{within_by, containers_by}
 use Rattle.reaction.specs.Plan.{conflicts_of, yielders_of}
-use Rattle.planner.specs.Parts.{Meetings, ByMeeting}
+use Rattle.planner.specs.Parts.{Words, Meetings, ByMeeting}
+use Rattle.planner.proofs.WordLaws.{below_words, below_added}
 
 -- ---- the meeting mode of each transition
 
@@ -39,24 +39,19 @@ module _ (s : List ℕ) (h : sheet_refusal s ≡ 0) where
 -- ---- the transitions of each meeting mode
 
 module _ (s : List ℕ) where
-  -- word m is the set of the transitions below t with meeting mode m
-  abbrev pub ByMeetingTo : ℕ → List ℕ → Type 0
-  ByMeetingTo t words = (m : ℕ) → m < 32 → get_or words m 0 ≡ set_of t (λ u. eqb (meeting s u) m)
+  -- p is the meeting mode of u
+  abbrev pub by_meeting : ℕ → ℕ → Bool
+  by_meeting p u = eqb (meeting s u) p
 
-  -- the loop that adds each transition to the word of its meeting mode p: its start, its turn at t and its end
-  pub by_meeting_start : ByMeetingTo 0 (replicate 32 0)
-  by_meeting_start m l = get_or_zeros 32 m ∙ set_of_none (λ u. eqb (meeting s u) m)
+  -- the loop that adds each transition to the word of its meeting mode p: its turn at t and its end
+  pub by_meeting-turn : (l : List ℕ) (t p : ℕ) {x : ℕ} → p < length l → p < 32 → p ≡ meeting s t → x ≡ single t → Words l 32 (below_words by_meeting t)
+      → Words (set l p (union (get_or l p 0) x)) 32 (below_words by_meeting (t + 1))
+  by_meeting-turn l t p room b e k w =
+      below_added by_meeting l 32 t p room b k (eq-eqb (meeting s t) p (sym e)) (λ i q. ne_eqb (meeting s t) i (λ y. q (sym (e ∙ y)))) w
 
-  pub by_meeting-turn : (words : List ℕ) (t p x : ℕ) → p ≡ meeting s t → p < 32 → p < length words → x ≡ single t → ByMeetingTo t words
-      → ByMeetingTo (t + 1) (set words p (union (get_or words p 0) x))
-  by_meeting-turn words t p x e k room f a m l =
-      set_word words p (union (get_or words p 0) x) m room
-      (λ i. ap₂ union (a p k) f ∙ set_of-add t (λ u. eqb (meeting s u) p) (eq-eqb (meeting s t) p (sym e)) ∙ ap (λ (j : ℕ). set_of (t + 1) (λ u. eqb (meeting s u) j)) (sym i))
-      (λ i. a m l ∙ set_of_skip t (λ u. eqb (meeting s u) m) (ne_eqb (meeting s t) m (λ j. i (sym (e ∙ j)))))
-
-  pub by_meeting_end : (words : List ℕ) (t : ℕ) → t ≡ t_of s → ByMeetingTo t words → ByMeeting s words
+  pub by_meeting_end : (l : List ℕ) {t : ℕ} → t ≡ t_of s → Words l 32 (below_words by_meeting t) → ByMeeting s l
   unfolding ByMeeting
-  by_meeting_end words t e a m l = set_of_width (λ u. eqb (meeting s u) m) (a m l) e
+  by_meeting_end l e w = rw e at w
 
 -- ---- conflict and giving way
 

@@ -1,4 +1,4 @@
--- HITS: of the transitions that an input set can trigger by itself, those that one does. The words of all input sets at once: bit i for
+-- Of the transitions that an input set can trigger by itself, those that one does. The words of all input sets at once: bit i for
 -- input set i. Assumes nothing.
 use mathlib.Core.Path.{◌≡◌, refl, sym, ap, ap₂, ◌∙◌}
 use mathlib.Core.Logic.{◌⊎◌, inl, inr}
@@ -8,7 +8,7 @@ use Prim.Native.Nat.{ℕ, zero, suc, ◌+◌, ◌-◌, ◌*◌, ◌%◌, ◌^◌
 use native.Mathlib.Nat.{lt_of_lt_of_le, lt_of_le_of_lt, pow-le-pow_right}
 use native.Mathlib.Omega.{arith}
 use lib.Dec.{eqb, ltb}
-use lib.ListN.{length, get_or}
+use lib.ListN.{get_or, replicate}
 use borrow.Author.Tests.{lt-ltb}
 use Rattle.sets.specs.Sets.{has, union, meet, minus, below, digit, those, set_of}
 use Rattle.sets.proofs.Tests.{is_true, of_true}
@@ -16,18 +16,15 @@ use Rattle.sets.proofs.Facts.{set_of_e}
 use Rattle.sets.proofs.Membership.{has_none, has-union, has_meet, has-not, has_below, one_shl, union-lt, meet-le, has-set_of, set_of-lt, set_of_ext, set_of_same, has-those}
 use Rattle.sets.proofs.Members.{Turn}
 use Rattle.sets.proofs.Those.{Subset, those_part_lt, those_start, those_tested, those_done}
-use Rattle.rows.specs.Over.{over}
-use Rattle.meaning.specs.Lists.{row_from}
 use Rattle.meaning.specs.Sheet.{k_of, t_of, term_count, term_kind, term_value}
 use Rattle.meaning.specs.Check.{sheet_refusal}
 use Rattle.meaning.specs.Reaction.{is_delay, delay, alternative}
-use Rattle.meaning.proofs.ListLaws.{row_from_ext}
 use Rattle.meaning.proofs.SheetLaws.{sound, t_le, k_le}
-use Rattle.reaction.specs.Plan.{hits_part, no_sets, events_only, hits_of}
+use Rattle.reaction.specs.Plan.{no_sets, events_only, hits_of}
 use Rattle.reaction.specs.Facts.{facts_of, holds_by}
 use Rattle.reaction.proofs.TermLaws.{alternative_by_lem, some_from, some_from_start, some_from_or, some_from_term, some_from_end}
-use Rattle.planner.specs.Parts.{WordsAt, is_sure, sure, is_hit}
-use Rattle.planner.proofs.PartLaws.{part_in, part_same, part_again}
+use Rattle.planner.specs.Parts.{Words, is_sure, sure, is_hit}
+use Rattle.planner.proofs.WordLaws.{zero_words}
 
 -- ---- the input sets on which a term holds
 
@@ -135,7 +132,7 @@ module _ (s : List ℕ) (t : ℕ) where
   unfolding is_sure
   sure_events e d = rw d at e
 
--- ---- HITS
+-- ---- the words of the input sets
 
 -- of one with a delay (d), 0 (z), or with event terms alone (e) that hold (a)
 sure_hit : (d z e a : Bool) → (cond d z e && (d || a)) ≡ cond d z (e && a)
@@ -154,20 +151,15 @@ module _ (s : List ℕ) where
   abbrev pub hits_but : ℕ → ℕ → ℕ → ℕ
   hits_but certain rest i = minus (those 64 certain (λ t. is_hit s t i)) rest
 
-  pub hits_turn : {rest t r x : ℕ} (l m : List ℕ) {m' : List ℕ} (n certain : ℕ) → hits_part + n ≤ length l → n ≤ 64 → Turn 64 rest t r → Subset rest certain
-      → m ≡ over l hits_part (row_from 0 n (hits_but certain rest)) → x ≡ set_of 64 (is_hit s t)
-      → m' ≡ over m hits_part (row_from 0 n (λ i. union (get_or m (hits_part + i) 0) (digit (has x i) * 2 ^ t)))
-      → m' ≡ over l hits_part (row_from 0 n (hits_but certain r))
-  hits_turn {rest} {t} {r} {x} l m n certain h b u p e q k =
-      k ∙ ap (over m hits_part) (row_from_ext (λ i. union (get_or m (hits_part + i) 0) (digit (has x i) * 2 ^ t)) (hits_but certain r) 0 n word)
-      ∙ ap (λ (y : List ℕ). over y hits_part (row_from 0 n (hits_but certain r))) e
-      ∙ part_again l hits_part n (hits_but certain rest) (hits_but certain r) h
-    where
-      word : (i : ℕ) → 0 ≤ i → i < 0 + n → union (get_or m (hits_part + i) 0) (digit (has x i) * 2 ^ t) ≡ hits_but certain r i
-      word i a k =
-          those_tested certain (λ v. is_hit s v i) u p
-          (ap (λ (y : List ℕ). get_or y (hits_part + i) 0) e ∙ part_in l hits_part n (hits_but certain rest) h i (omega arith)) refl
-          (ap (λ (y : ℕ). has y i) q ∙ has-set_of 64 (is_hit s t) i (omega arith))
+  pub hits_start : {l : List ℕ} (n certain : ℕ) → n ≤ 64 → l ≡ replicate 64 0 → Words l n (hits_but certain certain)
+  hits_start n certain b e i l =
+      zero_words 64 (hits_but certain certain) e (λ k. those_start 64 certain (λ t. is_hit s t k)) i (omega arith)
+
+  pub hits_turn : {rest t r x : ℕ} (old new : List ℕ) (n certain : ℕ) → n ≤ 64 → Turn 64 rest t r → Subset rest certain → Words old n (hits_but certain rest)
+      → x ≡ set_of 64 (is_hit s t) → Words new n (λ i. union (get_or old i 0) (digit (has x i) * 2 ^ t)) → Words new n (hits_but certain r)
+  hits_turn {rest} {t} {r} {x} old new n certain b u p w q k i l =
+      k i l
+      ∙ those_tested certain (λ v. is_hit s v i) u p (w i l) refl (ap (λ (y : ℕ). has y i) q ∙ has-set_of 64 (is_hit s t) i (omega arith))
 
   module _ (h : sheet_refusal s ≡ 0) where
     -- 1, 2, 4, .. 64 input sets
@@ -193,15 +185,6 @@ module _ (s : List ℕ) where
         rw e
         (set_of_ext (t_of s) (test i) (those_part_lt 64 (t_of s) (set_of (t_of s) (is_sure s)) (λ t. is_hit s t i) (set_of-lt (t_of s) (is_sure s))) (has_hits i))
 
-    pub hits_start : {n : ℕ} (l : List ℕ) (certain : ℕ) → n ≡ 2 ^ k_of s → hits_part + 64 ≤ length l → WordsAt l hits_part 64 (λ _. 0)
-        → l ≡ over l hits_part (row_from 0 n (hits_but certain certain))
-    hits_start {n} l certain e k p =
-        part_same l hits_part n (hits_but certain certain) (omega (arith, inputs_le))
-        (λ i b. p i (omega (arith, inputs_le)) ∙ sym (those_start 64 certain (λ t. is_hit s t i)))
-
-    pub hits_done : {n certain rest : ℕ} (l : List ℕ) → n ≡ 2 ^ k_of s → certain ≡ sure s → rest ≡ 0
-        → over l hits_part (row_from 0 n (hits_but certain rest)) ≡ over l hits_part (row_from 0 (2 ^ k_of s) (hits_of s))
-    hits_done {n} {certain} {rest} l e c z =
-        rw e
-        (ap (over l hits_part) (row_from_ext (hits_but certain rest) (hits_of s) 0 (2 ^ k_of s)
-        (λ i a b. those_done 64 certain rest (λ t. is_hit s t i) z ∙ hits_is i c)))
+    pub hits_done : {n certain rest : ℕ} (l : List ℕ) → n ≡ 2 ^ k_of s → certain ≡ sure s → rest ≡ 0 → Words l n (hits_but certain rest)
+        → Words l (2 ^ k_of s) (hits_of s)
+    hits_done {n} {certain} {rest} words e c z w i l = w i (omega arith) ∙ those_done 64 certain rest (λ t. is_hit s t i) z ∙ hits_is i c

@@ -1,4 +1,4 @@
-pub mod PartLaws
+pub mod WordLaws
 pub mod SourceLaws
 pub mod LookLaws
 pub mod NextLaws
@@ -6,4 +6,3 @@ pub mod WokenLaws
 pub mod ConflictLaws
 pub mod ClassLaws
 pub mod HitLaws
-pub mod Assembly

@@ -1,45 +1,35 @@
--- FROM: the words of the modes while the transitions are added one by one; and what stays while a part is laid. Assumes nothing.
-use mathlib.Core.Path.{◌≡◌, sym, ap, ◌∙◌}
-use mathlib.Core.Logic.{◌⊎◌}
-use mathlib.Core.Bool.{true}
+-- The transitions by their sources, while they are added one by one. Assumes nothing.
+use mathlib.Core.Path.{◌≡◌, sym, ◌∙◌}
+use mathlib.Core.Bool.{Bool}
 use mathlib.Core.List.{List}
-use Prim.Native.Nat.{ℕ, ◌+◌, ◌≤◌, ◌<◌}
+use Prim.Native.Nat.{ℕ, ◌+◌, ◌<◌}
 use native.Mathlib.Omega.{arith}
 use lib.ListN.{length, get_or, set}
 use borrow.Author.Tests.{eq-eqb, ne_eqb}
-use Rattle.sets.specs.Sets.{has, union, single, set_of}
-use Rattle.sets.proofs.Membership.{has-single, set_of-add, set_of_skip}
-use Rattle.rows.specs.Over.{over}
-use Rattle.meaning.specs.Lists.{row_from}
+use Rattle.sets.specs.Sets.{has, union, single}
+use Rattle.sets.proofs.Membership.{has-single}
 use Rattle.meaning.specs.Sheet.{t_of, source}
-use Rattle.reaction.specs.Plan.{from_part, sources_in}
-use Rattle.planner.specs.Parts.{WordsAt, from_of}
-use Rattle.planner.proofs.PartLaws.{part_in, part_beside, part_same, part_set}
+use Rattle.meaning.specs.Check.{sheet_refusal}
+use Rattle.meaning.proofs.SheetLaws.{sound, n_le, source-lt}
+use Rattle.reaction.specs.Plan.{sources_in}
+use Rattle.planner.specs.Parts.{Words, from_of}
+use Rattle.planner.proofs.WordLaws.{below_words, below_added}
 
--- of the transitions below t, those with source m
-abbrev pub from_below : List ℕ → ℕ → ℕ → ℕ
-from_below s t m = set_of t (λ u. has (single m) (source s u))
+-- a source is a mode
+pub source_small : (s : List ℕ) → sheet_refusal s ≡ 0 → (t : ℕ) → t < t_of s → source s t < 32
+source_small s h t l = omega (arith, n_le s (sound s h), source-lt s (sound s h) t l)
 
-pub from_start : (s l : List ℕ) → from_part + 32 ≤ length l → WordsAt l from_part 32 (λ _. 0) → l ≡ over l from_part (row_from 0 32 (from_below s 0))
-unfolding set_of
-from_start s l h k = part_same l from_part 32 (from_below s 0) h k
+module _ (s : List ℕ) where
+  -- m is the source of u
+  abbrev pub by_source : ℕ → ℕ → Bool
+  by_source m u = has (single m) (source s u)
 
-pub from_turn : (s l : List ℕ) (t m : ℕ) → from_part + 32 ≤ length l → m ≡ source s t → m < 32
-    → let r = over l from_part (row_from 0 32 (from_below s t)) in set r (from_part + m) (union (get_or r (from_part + m) 0) (single t)) ≡ over l from_part (row_from 0 32 (from_below s (t + 1)))
-from_turn s l t m h e b =
-    let here : has (single m) (source s t) ≡ true = has-single m (source s t) ∙ eq-eqb (source s t) m (sym e) in
-    let r = over l from_part (row_from 0 32 (from_below s t)) in
-    ap (λ (x : ℕ). set r (from_part + m) (union x (single t))) (part_in l from_part 32 (from_below s t) h m b)
-    ∙ ap (set r (from_part + m)) (set_of-add t (λ u. has (single m) (source s u)) here)
-    ∙ part_set l from_part 32 (from_below s t) (from_below s (t + 1)) m h b
-    (λ k x. set_of_skip t (λ u. has (single k) (source s u)) (has-single k (source s t) ∙ ne_eqb (source s t) k (λ y. x (omega arith))))
+  pub from_turn : (l : List ℕ) (t m : ℕ) {x : ℕ} → m < length l → m < 32 → m ≡ source s t → x ≡ single t → Words l 32 (below_words by_source t)
+      → Words (set l m (union (get_or l m 0) x)) 32 (below_words by_source (t + 1))
+  from_turn l t m room b e k w =
+      below_added by_source l 32 t m room b k (has-single m (source s t) ∙ eq-eqb (source s t) m (sym e))
+      (λ i q. has-single i (source s t) ∙ ne_eqb (source s t) i (λ y. q (sym (e ∙ y)))) w
 
-pub from_done : (s l : List ℕ) (t : ℕ) → t ≡ t_of s → over l from_part (row_from 0 32 (from_below s t)) ≡ over l from_part (row_from 0 32 (from_of s))
-unfolding sources_in
-from_done s l t e = rw e
-
--- ---- while a part is laid, the parts beside it stay
-
-pub beside_stays : (l : List ℕ) (at t : ℕ) (f : ℕ → ℕ) {m : List ℕ} → m ≡ over l at (row_from 0 t f) → at + t ≤ length l
-    → (b v : ℕ) (g : ℕ → ℕ) → (b + v ≤ at) ⊎ (at + t ≤ b) → WordsAt l b v g → WordsAt m b v g
-beside_stays l at t f e h b v g k p = rw e (part_beside l at t f h b v g k p)
+  pub from_done : (l : List ℕ) {t : ℕ} → t ≡ t_of s → Words l 32 (below_words by_source t) → Words l 32 (from_of s)
+  unfolding sources_in
+  from_done l e w = rw e at w

@@ -3,8 +3,8 @@ use mathlib.Core.Path.{◌≡◌, sym, ap, ap₂, ◌∙◌, subst}
 use mathlib.Core.Logic.{◌⊎◌, inl, inr, ⊎_elim}
 use mathlib.Core.Bool.{Bool, true, false, ◌&&◌, ◌||◌, cond}
 use mathlib.Core.List.{List}
-use Prim.Native.Nat.{ℕ, ◌+◌, ◌/◌, ◌%◌, ◌^◌, ◌<◌}
-use native.Mathlib.Nat.{zero-add, lt_of_le_of_lt, lt_of_lt_of_le, pow-le-pow_right}
+use Prim.Native.Nat.{ℕ, ◌/◌, ◌%◌, ◌^◌, ◌<◌}
+use native.Mathlib.Nat.{lt_of_le_of_lt, lt_of_lt_of_le, pow-le-pow_right}
 use native.Mathlib.Omega.{arith}
 use lib.Dec.{T, eqb, ltb, eqb→eq, ltb→lt, lt→ltb, eqb_refl}
 use lib.ListN.{get_or}
@@ -66,7 +66,7 @@ module _ (s : List ℕ) (t c v : ℕ) where
       go false false true p q r a = inr (inl (v, and_i (eqb c 5) (eqb v v) (r tt) (eqb_refl v), a))
       go false false false p q r a = inr (inr a)
 
--- ---- what t enters and exits, by its word of ENDS
+-- ---- what t enters and exits, by its word of the ends
 
 module _ (s : List ℕ) (h : sheet_refusal s ≡ 0) (t : ℕ) where
   mode_set-lt : (p : ℕ → Bool) → set_of (n_of s) p < 2 ^ 32
@@ -83,7 +83,7 @@ module _ (s : List ℕ) (h : sheet_refusal s ≡ 0) (t : ℕ) where
   enters_read e k = k ∙ rw e (omega (arith, exits_small))
 
   module _ (l : t < t_of s) where
-    abbrev held : ℕ
+    abbrev pub held : ℕ
     held = child_holding s (meeting s t) (source s t)
 
     held_mode : held < n_of s
@@ -111,7 +111,7 @@ module _ (s : List ℕ) (h : sheet_refusal s ≡ 0) (t : ℕ) where
     pub held_lt : {c : ℕ} → c ≡ held → c < 32
     held_lt e = omega (arith, held_mode, n_le s (sound s h))
 
-    -- ---- word t of NEXT: those with a term about t taken, those of the modes that t enters, those of the mode that it exits
+    -- ---- those that t can trigger next: those with a term about t taken, those of the modes that t enters, those of the mode that it exits
 
     abbrev by_taken : ℕ → Bool
     by_taken u = ltb u (t_of s) && looks_taken s u t
@@ -210,7 +210,7 @@ module _ (s : List ℕ) (h : sheet_refusal s ≡ 0) (t : ℕ) where
         (λ q. ⊎_elim (or_l a (b || c)) (λ r. or_r a (b || c) (⊎_elim (or_l b c) (or_r b c) r)) (next_e u q))
 
     pub next_word : (entry exit : List ℕ) (y : ℕ) {x c z : ℕ} → EntryWords s entry → ExitWords s exit → x ≡ taken_of s t → z ≡ enters s t → c ≡ held
-        → ((u : ℕ) → has y u ≡ some_in 32 z (λ m. has (get_or entry (0 + m) 0) u))
+        → ((u : ℕ) → has y u ≡ some_in 32 z (λ m. has (get_or entry m 0) u))
         → union x (union y (get_or exit c 0)) ≡ next_of s t
     unfolding EntryWords ExitWords taken_of
     next_word entry exit y {x} {c} {z} p q ex ez ec ey =
@@ -219,7 +219,7 @@ module _ (s : List ℕ) (h : sheet_refusal s ≡ 0) (t : ℕ) where
         ∙ ap₂ ◌||◌ (ap (λ (w : ℕ). has w u) ex ∙ set_of-has (t_of s) (λ v. looks_taken s v t) u)
         (has-union y (get_or exit c 0) u
         ∙ ap₂ ◌||◌
-        (ey u ∙ ap (λ (w : ℕ). some_in 32 w (λ m. has (get_or entry (0 + m) 0) u)) ez
-        ∙ some_in_same 32 (enters s t) (λ m. has (get_or entry (0 + m) 0) u) (by_entry u) (λ m i. ap (λ (k : ℕ). has (get_or entry k 0) u) (zero-add m) ∙ p m u i))
+        (ey u ∙ ap (λ (w : ℕ). some_in 32 w (λ m. has (get_or entry m 0) u)) ez
+        ∙ some_in_same 32 (enters s t) (λ m. has (get_or entry m 0) u) (by_entry u) (λ m i. p m u i))
         (ap (λ (k : ℕ). has (get_or exit k 0) u) ec ∙ q held u held_mode))
         ∙ next_is u)

@@ -6,16 +6,16 @@ use Rattle.meaning.specs.Hierarchy.{exits, enters}
 use Rattle.meaning.specs.Reaction.{is_delay, delay, alternative}
 use Rattle.reaction.specs.Plan.{sources_in, no_sets, events_only}
 
--- the w words of a list from a place on are f 0, f 1, ..
-abbrev pub WordsAt : List ℕ → ℕ → ℕ → (ℕ → ℕ) → Type 0
-WordsAt l at w f = (t : ℕ) → t < w → get_or l (at + t) 0 ≡ f t
+-- the first n words of a list are f 0, f 1, ..
+abbrev pub Words : List ℕ → ℕ → (ℕ → ℕ) → Type 0
+Words l n f = (t : ℕ) → t < n → get_or l t 0 ≡ f t
 
 module _ (s : List ℕ) where
-  -- word m of FROM: the transitions with source m
+  -- the transitions with source m
   abbrev pub from_of : ℕ → ℕ
   from_of m = sources_in s (single m)
 
-  -- word t of ENDS: what t exits and, from bit 32 on, what it enters
+  -- what t exits and, from bit 32 on, what it enters
   abbrev pub ends_of : ℕ → ℕ
   ends_of t = enters s t * 2 ^ 32 + exits s t
 

@@ -1,15 +1,12 @@
 // Timers, the transitions that input sets trigger by themselves, and the rest.
-ghost use Rattle.std.specs.Prelude.{◌≡◌, ◌<◌, length};
-ghost use Rattle.rows.specs.Over.{over};
-ghost use Rattle.meaning.specs.Lists.{row_from};
+ghost use Rattle.std.specs.Prelude.{◌≡◌, ◌<◌, replicate};
 ghost use Rattle.meaning.specs.Sheet.{t_of};
 ghost use Rattle.meaning.specs.Check.{sheet_refusal};
-ghost use Rattle.reaction.specs.Plan.{delays_part, plan_size, timers, timer_delay, mixed, early};
-ghost use Rattle.planner.specs.Parts.{WordsAt, is_sure, sure};
+ghost use Rattle.reaction.specs.Plan.{timers, timer_delay, mixed, early};
+ghost use Rattle.planner.specs.Parts.{Words, is_sure, sure};
 
-use reaction::plan::{DELAYS, Plan};
 use reaction::terms::{delay, events_only, is_delay, is_timer, judged};
-use sets::transitions;
+use sets::set::Set;
 use sheet::words::transition_count;
 
 // Transition t has delay 0, or event terms alone.
@@ -34,14 +31,11 @@ pub fn classes_of(sheet: &[u32]) -> Classed
     requires { sheet_refusal sheet.now ≡ 0 }
     ensures { (result.timing ≡ timers sheet.now) × (result.certain ≡ sure sheet.now) }
 {
-    let count = transition_count(sheet);
     let mut timing = 0u64;
     let mut certain = 0u64;
-    let mut t = 0;
-    while t < count {
-        timing |= transitions::single_if(is_timer(sheet, t), t);
-        certain |= transitions::single_if(is_sure(sheet, t), t);
-        t += 1;
+    for t in 0..transition_count(sheet) {
+        timing |= u64::single_if(is_timer(sheet, t), t);
+        certain |= u64::single_if(is_sure(sheet, t), t);
     }
     Classed { timing, certain }
 }
@@ -51,10 +45,7 @@ pub fn mixed(sheet: &[u32], timing: u64, certain: u64) -> u64
     requires { (sheet_refusal sheet.now ≡ 0) × (timing ≡ timers sheet.now) × (certain ≡ sure sheet.now) }
     ensures { result ≡ mixed sheet.now }
 {
-    transitions::minus(
-        transitions::below(transition_count(sheet)),
-        timing | certain,
-    )
+    u64::below(transition_count(sheet)).minus(timing | certain)
 }
 
 // Those of them whose terms can hold before anything is entered, exited or taken: on every event present and absent, in all modes.
@@ -67,19 +58,12 @@ pub fn early(sheet: &[u32], set: u64) -> u64
     judged(sheet, 0xffff_ffff, set, &f)
 }
 
-// DELAYS: each timer's delay is stored.
-pub fn put_delays(sheet: &[u32], timing: u64, plan: &mut Plan)
-    requires { (sheet_refusal sheet.now ≡ 0)
-        × (length plan.old ≡ plan_size)
-        × (timing ≡ timers sheet.now)
-        × WordsAt plan.old delays_part 64 (λ _. 0) }
-    ensures { plan.new
-        ≡ over plan.old delays_part (row_from 0 64 (timer_delay sheet.now)) }
+// Each timer's delay is stored.
+pub fn put_delays(sheet: &[u32], timing: u64, delays: &mut [u64; 64])
+    requires { (sheet_refusal sheet.now ≡ 0) × (timing ≡ timers sheet.now) × (delays.old ≡ replicate 64 0) }
+    ensures { Words delays.new 64 (timer_delay sheet.now) }
 {
-    let mut rest = timing;
-    while rest != 0 {
-        let t = transitions::lowest(rest);
-        plan[DELAYS + t] = delay(sheet, t) as u64;
-        rest = transitions::without_lowest(rest);
+    for t in timing.members() {
+        delays[t] = u64::from(delay(sheet, t));
     }
 }

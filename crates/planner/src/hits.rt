@@ -1,18 +1,16 @@
 // The transitions that an input set triggers by itself, worked out for all input sets at once: bit i of a word for input set i.
-ghost use Rattle.std.specs.Prelude.{◌≡◌, ◌⊎◌, true, ◌+◌, ◌*◌, ◌^◌, ◌≤◌, ◌<◌, ltb, length, get_or};
+ghost use Rattle.std.specs.Prelude.{◌≡◌, ◌⊎◌, true, ◌*◌, ◌^◌, ◌≤◌, ◌<◌, ltb, get_or, replicate};
 ghost use Rattle.sets.specs.Sets.{has, union, digit, set_of};
-ghost use Rattle.rows.specs.Over.{over};
-ghost use Rattle.meaning.specs.Lists.{row_from};
 ghost use Rattle.meaning.specs.Sheet.{k_of, t_of};
 ghost use Rattle.meaning.specs.Check.{sheet_refusal};
 ghost use Rattle.meaning.specs.Reaction.{alternative};
-ghost use Rattle.reaction.specs.Plan.{hits_part, plan_size, no_sets, events_only, hits_of};
+ghost use Rattle.reaction.specs.Plan.{no_sets, events_only, hits_of};
 ghost use Rattle.reaction.specs.Facts.{facts_of, holds_by};
-ghost use Rattle.planner.specs.Parts.{WordsAt, is_sure, sure, is_hit};
+ghost use Rattle.planner.specs.Parts.{Words, is_sure, sure, is_hit};
 
-use reaction::plan::{HITS, Plan};
 use reaction::terms::is_delay;
-use sets::transitions;
+use sets::set::Set;
+use sheet::kinds::TermKind;
 use sheet::words::{event_count, offset, term_count, wide};
 
 // The input sets that have event e.
@@ -31,13 +29,13 @@ fn with_event(e: usize) -> u64
     words[e]
 }
 
-// The input sets on which a term holds: event e is present (kind 1) or absent (kind 2).
+// The input sets on which a term holds: event e is present or absent.
 fn on_term(kind: u32, e: usize) -> u64
     requires { ((kind ≡ 1) ⊎ (kind ≡ 2)) × (e < 6) }
     ensures { result ≡ set_of 64 (λ i. holds_by (facts_of i no_sets) kind e) }
 {
     let words = with_event(e);
-    if kind == 1 {
+    if kind == TermKind::Present as u32 {
         return words;
     }
     !words
@@ -48,21 +46,18 @@ fn inputs_on(sheet: &[u32], t: usize) -> u64
     requires { (sheet_refusal sheet.now ≡ 0) × (t < t_of sheet.now) × (events_only sheet.now t ≡ true) }
     ensures { result ≡ set_of 64 (λ i. ltb 0 (alternative sheet.now i no_sets t)) }
 {
-    let count = term_count(sheet, t);
     let at = offset(sheet, t) + 2;
     // Those on which an earlier alternative holds, and those on which the terms so far of this one do.
     let mut found = 0u64;
     let mut held = 0xffff_ffff_ffff_ffffu64;
-    let mut j = 0;
-    while j < count {
+    for j in 0..term_count(sheet, t) {
         let kind = sheet[at + 2 * j];
-        if kind == 7 {
+        if kind == TermKind::Or as u32 {
             found |= held;
             held = 0xffff_ffff_ffff_ffff;
         } else {
             held &= on_term(kind, wide(sheet[at + 2 * j + 1]));
         }
-        j += 1;
     }
     found | held
 }
@@ -78,34 +73,23 @@ fn inputs_of(sheet: &[u32], t: usize) -> u64
     inputs_on(sheet, t)
 }
 
-// Transition t is put into the words of HITS for the input sets of a set.
-fn put_hit(plan: &mut Plan, count: usize, set: u64, t: usize)
-    requires { (length plan.old ≡ plan_size) × (count ≤ 64) × (t < 64) }
-    ensures { plan.new
-        ≡ over plan.old hits_part
-        (row_from 0 count (λ i. union (get_or plan.old (hits_part + i) 0) (digit (has set i) * 2 ^ t))) }
+// Transition t is put into the words of the input sets of a set.
+fn put_hit(hits: &mut [u64; 64], count: usize, set: u64, t: usize)
+    requires { (count ≤ 64) × (t < 64) }
+    ensures { Words hits.new count (λ i. union (get_or hits.old i 0) (digit (has set i) * 2 ^ t)) }
 {
-    let mut i = 0;
-    while i < count {
-        plan[HITS + i] |= transitions::single_if(transitions::has(set, i), t);
-        i += 1;
+    for i in 0..count {
+        hits[i] |= u64::single_if(set.has(i), t);
     }
 }
 
-// HITS: each sure transition is put into the words of the input sets that trigger it.
-pub fn put_hits(sheet: &[u32], certain: u64, plan: &mut Plan)
-    requires { (sheet_refusal sheet.now ≡ 0)
-        × (length plan.old ≡ plan_size)
-        × (certain ≡ sure sheet.now)
-        × WordsAt plan.old hits_part 64 (λ _. 0) }
-    ensures { plan.new
-        ≡ over plan.old hits_part (row_from 0 (2 ^ k_of sheet.now) (hits_of sheet.now)) }
+// Each sure transition is put into the words of the input sets that trigger it.
+pub fn put_hits(sheet: &[u32], certain: u64, hits: &mut [u64; 64])
+    requires { (sheet_refusal sheet.now ≡ 0) × (certain ≡ sure sheet.now) × (hits.old ≡ replicate 64 0) }
+    ensures { Words hits.new (2 ^ k_of sheet.now) (hits_of sheet.now) }
 {
     let count = wide(1u32 << event_count(sheet));
-    let mut rest = certain;
-    while rest != 0 {
-        let t = transitions::lowest(rest);
-        put_hit(plan, count, inputs_of(sheet, t), t);
-        rest = transitions::without_lowest(rest);
+    for t in certain.members() {
+        put_hit(hits, count, inputs_of(sheet, t), t);
     }
 }

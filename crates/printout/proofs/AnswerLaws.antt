@@ -16,17 +16,18 @@ use Rattle.meaning.proofs.Bounds.{table_run_done}
 use Rattle.decimals.specs.Request.{most_ticks, sheet_length, tick_count, request_ok, sheet_asked, inputs_asked}
 use Rattle.decimals.proofs.Requests.{accepted}
 use Rattle.printout.specs.Promises.{OutputEnough}
-use Rattle.printout.specs.Answers.{table_room, work_room, Answered, only_refused, ran_answer, compiled_sheet, answer_to_sheet, answer_to}
+use Rattle.printout.specs.declared.answer.Answer.TheVariants.{Ran}
+use Rattle.printout.specs.Answers.{table_room, work_room, ticks_done, Answered, only_refused, ran_answer, compiled_sheet, answer_to_sheet, answer_to}
 
 -- ---- the run
 
 ran_answer_lem : (r : Run) (n : ℕ) → n ≡ r.refusal
-    → record { answer = record { header = true; done = r.done; refusal = n }; out = r.out } ≡ ran_answer r
+    → record { answer = Ran r.done n; out = r.out } ≡ ran_answer r
 unfolding ran_answer
 ran_answer_lem r n e = rw e
 
 pub answer_ran_is : {r o : Run} {n : ℕ} → n ≡ r.refusal → r ≡ o
-    → record { answer = record { header = true; done = r.done; refusal = n }; out = r.out } ≡ ran_answer o
+    → record { answer = Ran r.done n; out = r.out } ≡ ran_answer o
 answer_ran_is {r} {o} {n} k e = ran_answer_lem r n k ∙ ap ran_answer e
 
 -- ---- compile
@@ -77,7 +78,7 @@ module _ (numbers out : List ℕ) where
       let k = accepted numbers e in
       simp length-take (omega (arith, k.ticks))
 
-  sheet_few : (sheet inputs : List ℕ) → length inputs ≤ most_ticks → (answer_to_sheet sheet inputs out).answer.done ≤ most_ticks
+  sheet_few : (sheet inputs : List ℕ) → length inputs ≤ most_ticks → ticks_done (answer_to_sheet sheet inputs out).answer ≤ most_ticks
   unfolding answer_to_sheet only_refused ran_answer
   sheet_few sheet inputs h = go (eqb (compiled_sheet sheet).refusal 0)
     where
@@ -87,18 +88,18 @@ module _ (numbers out : List ℕ) where
       ran : Run
       ran = table_run (take c.table_length c.table) power_on inputs out
 
-      go : (b : Bool) → (cond b (ran_answer ran) (only_refused c.refusal out)).answer.done ≤ most_ticks
+      go : (b : Bool) → ticks_done (cond b (ran_answer ran) (only_refused c.refusal out)).answer ≤ most_ticks
       go true = omega (arith, table_run_done (take c.table_length c.table) power_on inputs out)
       go false = zero-le
 
-  pub answer_few : (good : Bool) → (answer_to good numbers out).answer.done ≤ most_ticks
+  pub answer_few : (good : Bool) → ticks_done (answer_to good numbers out).answer ≤ most_ticks
   unfolding answer_to only_refused
   answer_few good = go good (request_ok numbers) refl
     where
       served : Answered
       served = answer_to_sheet (sheet_asked numbers) (inputs_asked numbers) out
 
-      go : (g r : Bool) → request_ok numbers ≡ r → (cond (g && r) served (only_refused 0 out)).answer.done ≤ most_ticks
+      go : (g r : Bool) → request_ok numbers ≡ r → ticks_done (cond (g && r) served (only_refused 0 out)).answer ≤ most_ticks
       go true true e = sheet_few (sheet_asked numbers) (inputs_asked numbers) (inputs_few e)
       go true false e = zero-le
       go false r e = zero-le

@@ -1,4 +1,3 @@
-pub mod Rows
 pub mod AnswerLaws
 pub mod TextLaws
 pub mod Promised

@@ -6,7 +6,7 @@ use mathlib.Core.List.{List, [], ◌∷◌, ◌++◌}
 use Prim.Native.Nat.{ℕ, suc, ◌+◌, ◌≤◌, ◌<◌}
 use native.Mathlib.Numerals.{add-one}
 use native.Mathlib.Omega.{arith}
-use lib.Dec.{leb}
+use lib.Dec.{eqb, leb}
 use lib.ListN.{length, get_or, take, drop, drop_of_length-le}
 use lib.Seq.{drop-cons}
 use borrow.Author.Tests.{leb-false}
@@ -17,8 +17,10 @@ use Rattle.decimals.specs.Promises.{ReadWhole}
 use Rattle.decimals.proofs.Counts.{fits_begun, fits_cond, fits_gap, fits_byte}
 use Rattle.decimals.proofs.Requests.{unaccepted}
 use Rattle.decimals.proofs.Whole.{read_whole_lem}
-use Rattle.printout.specs.declared.texts.TextEnd.{TextEnd}
-use Rattle.printout.specs.Answers.{Answered, answer_to}
+use Rattle.std.proofs.Common.{Option, None, Some}
+use Rattle.std.specs.Option.{option_eq}
+use Rattle.sets.proofs.Tests.{eqb-sym}
+use Rattle.printout.specs.Answers.{ticks_done, Answered, answer_to}
 use Rattle.printout.specs.Texts.{ends_text, after_byte, after_part, AfterInput, TextAnswered, answer_read}
 use Rattle.printout.specs.Promises.{InputParts, AnswersText}
 use Rattle.printout.proofs.AnswerLaws.{answer_few, answer_not}
@@ -31,7 +33,7 @@ module _ (x : Reading) (out : List ℕ) where
   unfolding answer_read
   text_answered y a e h = rw (← e, h)
 
-  pub read_few : (t : TextAnswered) → t ≡ answer_read x out → t.answered.answer.done ≤ most_ticks
+  pub read_few : (t : TextAnswered) → t ≡ answer_read x out → ticks_done t.answered.answer ≤ most_ticks
   unfolding answer_read
   read_few t e = let y = with_gap x in rw e (answer_few (take y.count y.words) out y.good)
 
@@ -39,8 +41,16 @@ module _ (x : Reading) (out : List ℕ) where
   unfolding answer_read
   read_words_lem t e = ap (λ (t : TextAnswered). t.words) e
 
-module _ (end : TextEnd) where
+module _ (end : Option ℕ) where
   -- ---- a byte
+
+  -- what the comparison of the byte that ends a text answers
+  pub ends_is : (b : ℕ) → option_eq eqb end (Some b) ≡ ends_text end b
+  ends_is b = go end
+    where
+      go : (o : Option ℕ) → option_eq eqb o (Some b) ≡ ends_text o b
+      go None = refl
+      go (Some e) = eqb-sym e b
 
   module _ (x : Reading) (b : ℕ) where
     pub byte_ends : ends_text end b ≡ true → begun (with_gap x).words ≡ after_byte end x b
@@ -82,7 +92,7 @@ input_parts_lem end x (y ∷ a) b = input_parts_lem end (after_byte end x y) a b
 
 -- ---- after some input
 
-module _ (end : TextEnd) (x : Reading) where
+module _ (end : Option ℕ) (x : Reading) where
   pub after_none : (words : List ℕ) → length words ≡ most_numbers → x ≡ begun words → AfterInput end x
   unfolding after_part
   after_none words h e = record { input = []; words = words; room = h; is = e }
@@ -104,7 +114,7 @@ module _ (end : TextEnd) (x : Reading) where
 
 -- ---- a text is answered as the numbers that it says
 
-part_text : (end : TextEnd) (x : Reading) (text : List ℕ) → ((i : ℕ) → i < length text → ends_text end (get_or text i 0) ≡ false)
+part_text : (end : Option ℕ) (x : Reading) (text : List ℕ) → ((i : ℕ) → i < length text → ends_text end (get_or text i 0) ≡ false)
     → after_part end x text ≡ with_text x text
 unfolding after_part with_text
 part_text end x [] h = refl

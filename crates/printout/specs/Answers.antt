@@ -1,10 +1,11 @@
 -- What the bench program answers to the numbers of a text. Assumes nothing.
-use Rattle.std.specs.Prelude.{Bool, true, false, ◌&&◌, cond, List, ◌∷◌, ℕ, ◌*◌, eqb, take, drop, replicate}
+use Rattle.std.specs.Prelude.{Bool, ◌&&◌, cond, List, ◌∷◌, ℕ, ◌*◌, eqb, take, drop, replicate}
 use Rattle.meaning.specs.Run.{power_on, Run}
 use Rattle.meaning.specs.TableRun.{table_run}
 use Rattle.meaning.specs.Compile.{Compiled, compile}
 use Rattle.decimals.specs.Request.{most_ticks, request_ok, sheet_asked, inputs_asked}
 use Rattle.printout.specs.declared.answer.Answer.{Answer}
+use Rattle.printout.specs.declared.answer.Answer.TheVariants.{Refused, Ran}
 
 -- the words lent: to compile for table and work list, to the run five for each tick
 abbrev pub table_room : ℕ
@@ -16,18 +17,23 @@ work_room = 1024
 abbrev pub output_room : ℕ
 output_room = 5 * most_ticks
 
--- an answer (whether there is a header, the ticks done, the refusal's number) and the output words at its end
+-- the ticks whose lines an answer has
+abbrev pub ticks_done : Answer → ℕ
+ticks_done (Refused e) = 0
+ticks_done (Ran done e) = done
+
+-- an answer (only a refusal's number; or, under a header, the ticks done and the refusal's number) and the output words at its end
 pub record Answered : Type 0 where
   pub answer : Answer
   pub out : List ℕ
 
 -- "a refusal prints `refused` and the number", and nothing else is printed
 unfoldable pub only_refused : ℕ → List ℕ → Answered
-only_refused e out = record { answer = record { header = false; done = 0; refusal = e }; out = out }
+only_refused e out = record { answer = Refused e; out = out }
 
 -- "a header line, then a line per tick ..; a refusal .. after the header and the done ticks if the run gave it"
 unfoldable pub ran_answer : Run → Answered
-ran_answer r = record { answer = record { header = true; done = r.done; refusal = r.refusal }; out = r.out }
+ran_answer r = record { answer = Ran r.done r.refusal; out = r.out }
 
 -- "It compiles into 8,192 words with a work list of 1,024"
 unfoldable pub compiled_sheet : List ℕ → Compiled

@@ -1,13 +1,13 @@
 // An answer on standard output.
 ghost use Rattle.std.specs.Prelude.{◌≡◌, ◌+◌, ◌*◌, ◌≤◌, length};
-ghost use Rattle.printout.specs.Answers.{output_room, tick_row};
+ghost use Rattle.printout.specs.Answers.{output_room, ticks_done, tick_row};
 
 use super::answer::Answer;
 use decimals::printer::put_line;
 
 fn print_refusal(n: u32) {
     io::write_all(1, b"refused ");
-    io::print_decimal(1, n as u64);
+    io::print_decimal(1, u64::from(n));
     io::write_all(1, b"\n");
 }
 
@@ -16,15 +16,10 @@ fn tick_row(out: &[u32], i: usize) -> [u32; 6]
     requires { (5 * i + 5 ≤ length out.now) × (length out.now ≤ output_room) }
     ensures { result ≡ tick_row out.now i }
 {
-    let at = 5 * i;
-    [
-        i as u32,
-        out[at],
-        out[at + 1],
-        out[at + 2],
-        out[at + 3],
-        out[at + 4],
-    ]
+    let mut row = [0; 6];
+    row[0] = i as u32;
+    row[1..].copy_from_slice(&out[5 * i..5 * i + 5]);
+    row
 }
 
 // The line of tick i.
@@ -32,8 +27,7 @@ fn print_tick(out: &[u32], i: usize)
     requires { (5 * i + 5 ≤ length out.now) × (length out.now ≤ output_room) }
 {
     let mut line = [0u8; 128];
-    let row = tick_row(out, i);
-    let n = put_line(&mut line, &row);
+    let n = put_line(&mut line, &tick_row(out, i));
     io::write_all(1, &line[..n]);
 }
 
@@ -42,21 +36,22 @@ fn print_ticks(out: &[u32], done: usize)
     requires { (5 * done ≤ length out.now) × (length out.now ≤ output_room) }
 {
     io::write_all(1, b"tick entered exited active taken_low taken_high\n");
-    let mut i = 0;
-    while i < done {
+    for i in 0..done {
         print_tick(out, i);
-        i += 1;
     }
 }
 
-// The header and the ticks, if there is a header; the refusal, if there is none or it is not 0.
-pub fn print_answer(a: Answer, out: &[u32])
-    requires { (5 * a.done ≤ length out.now) × (length out.now ≤ output_room) }
+// Only the refusal; or the header and the ticks, and the refusal if it is not 0.
+pub fn print_answer(answer: Answer, out: &[u32])
+    requires { (5 * ticks_done answer ≤ length out.now) × (length out.now ≤ output_room) }
 {
-    if a.header {
-        print_ticks(out, a.done);
-    }
-    if !a.header || a.refusal != 0 {
-        print_refusal(a.refusal);
+    match answer {
+        Answer::Refused(refusal) => print_refusal(refusal),
+        Answer::Ran { done, refusal } => {
+            print_ticks(out, done);
+            if refusal != 0 {
+                print_refusal(refusal);
+            }
+        }
     }
 }

@@ -64,6 +64,6 @@ module _ (s : List ℕ) (h : sheet_refusal s ≡ 0) (t : ℕ) (l : t < t_of s) w
       go false e k = absurd k
 
   -- the words of a tick say what its sets say
-  pub cause_by_lem : (i : ℕ) (z : TickSets) → i < 2 ^ 32 → cause_by s (facts_of i z) t ≡ cause s i z t
+  pub cause_by_lem : {f : List ℕ} (i : ℕ) (z : TickSets) → i < 2 ^ 32 → f ≡ facts_of i z → cause_by s f t ≡ cause s i z t
   unfolding cause_by cause
-  cause_by_lem i z b = ap (cond (is_delay s t) 9) (alternative_by_lem s i z b t h l)
+  cause_by_lem i z b e = ap (λ (f : List ℕ). cause_by s f t) e ∙ ap (cond (is_delay s t) 9) (alternative_by_lem s i z b t h l)

@@ -3,9 +3,8 @@
 use mathlib.Core.Path.{◌≡◌, sym, ap, ap₂, ◌∙◌, subst}
 use mathlib.Core.Bool.{Bool, ◌&&◌, and_comm}
 use mathlib.Core.List.{List}
-use Prim.Native.Nat.{ℕ, ◌+◌, ◌%◌, ◌^◌, ◌<◌}
-use native.Mathlib.Nat.{lt_of_le_of_lt, lt_of_lt_of_le, mod-eq_of_lt, pow-le-pow_right}
-use native.Mathlib.Omega.{arith}
+use Prim.Native.Nat.{ℕ, ◌^◌, ◌<◌}
+use native.Mathlib.Nat.{lt_of_le_of_lt}
 use lib.Dec.{T}
 use lib.ListN.{get_or}
 use Rattle.sets.specs.Sets.{has, meet, single, some, some_in}
@@ -13,12 +12,11 @@ use Rattle.sets.proofs.Tests.{bool_ext, and_l, and_r, and_i}
 use Rattle.sets.proofs.Facts.{has-lt, single_e, single_i, set_of_e, set_of_i, some_e, some_i, some_in_e, some_in_i}
 use Rattle.sets.proofs.Membership.{has_meet, has-set_of, set_of-lt, set_of_ext, same_members, meet-le}
 use Rattle.sets.proofs.Quantifiers.{some_in_same}
-use Rattle.meaning.specs.Sheet.{n_of, k_of, t_of, source}
-use Rattle.meaning.specs.Hierarchy.{completed_in, complete}
+use Rattle.meaning.specs.Sheet.{k_of, t_of, source}
 use Rattle.meaning.specs.Reaction.{is_timer, running}
 use Rattle.meaning.specs.NamedEvents.{names}
-use Rattle.meaning.proofs.SheetLaws.{sound, n_le}
-use Rattle.reaction.specs.Plan.{from_part, named_part, start_word, Planned, sources_in, named_in, timers}
+use Rattle.reaction.specs.declared.plan.Plan.{Plan}
+use Rattle.reaction.specs.Plan.{Planned, sources_in, named_in, timers}
 
 module _ (s : List ℕ) where
   pub sources_in-lt : (x : ℕ) → sources_in s x < 2 ^ t_of s
@@ -57,16 +55,16 @@ module _ (s : List ℕ) where
 
 -- ---- unions of words of the plan over the members of a mode set
 
-module _ (s plan : List ℕ) (p : Planned s plan) (x : ℕ) (b : x < 2 ^ 32) where
+module _ (s : List ℕ) (plan : Plan) (p : Planned s plan) (x : ℕ) (b : x < 2 ^ 32) where
   -- the words of a part, each right, over the members of x
-  over_words : (part : ℕ) (f : ℕ → ℕ) (i : ℕ) → ((m : ℕ) → m < 32 → get_or plan (part + m) 0 ≡ f m)
-      → some_in 32 x (λ m. has (get_or plan (part + m) 0) i) ≡ some_in 32 x (λ m. has (f m) i)
-  over_words part f i e =
-      some_in_same 32 x (λ m. has (get_or plan (part + m) 0) i) (λ m. has (f m) i) (λ m l. ap (λ (w : ℕ). has w i) (e m l))
+  over_words : (words : List ℕ) (f : ℕ → ℕ) (i : ℕ) → ((m : ℕ) → m < 32 → get_or words m 0 ≡ f m)
+      → some_in 32 x (λ m. has (get_or words m 0) i) ≡ some_in 32 x (λ m. has (f m) i)
+  over_words words f i e =
+      some_in_same 32 x (λ m. has (get_or words m 0) i) (λ m. has (f m) i) (λ m l. ap (λ (w : ℕ). has w i) (e m l))
 
-  pub from_words_lem : {r : ℕ} → ((i : ℕ) → has r i ≡ some_in 32 x (λ m. has (get_or plan (from_part + m) 0) i)) → r ≡ sources_in s x
+  pub from_words_lem : {r : ℕ} → ((i : ℕ) → has r i ≡ some_in 32 x (λ m. has (get_or plan.from m 0) i)) → r ≡ sources_in s x
   unfolding sources_in
-  from_words_lem {r} h = same_members (λ t. h t ∙ over_words from_part (λ m. sources_in s (single m)) t p.from_at ∙ sources t)
+  from_words_lem {r} h = same_members (λ t. h t ∙ over_words plan.from (λ m. sources_in s (single m)) t p.from_at ∙ sources t)
     where
       sources : (t : ℕ) → some_in 32 x (λ m. has (sources_in s (single m)) t) ≡ has (sources_in s x) t
       sources t = bool_ext (some_in 32 x (λ m. has (sources_in s (single m)) t)) (has (sources_in s x) t) forth back
@@ -86,8 +84,8 @@ module _ (s plan : List ℕ) (p : Planned s plan) (x : ℕ) (b : x < 2 ^ 32) whe
               some_in_i 32 x (λ m. has (sources_in s (single m)) t) (source s t) (has-lt 32 x (source s t) b a.1) a.1
               (set_of_i (t_of s) (on (single (source s t))) t a.0 (single_i (source s t)))
 
-  pub named_words : {r : ℕ} → ((i : ℕ) → has r i ≡ some_in 32 x (λ m. has (get_or plan (named_part + m) 0) i)) → r ≡ named_in s x
-  named_words {r} h = same_members (λ e. h e ∙ over_words named_part (λ m. named_in s (single m)) e p.named_at ∙ named e)
+  pub named_words : {r : ℕ} → ((i : ℕ) → has r i ≡ some_in 32 x (λ m. has (get_or plan.named m 0) i)) → r ≡ named_in s x
+  named_words {r} h = same_members (λ e. h e ∙ over_words plan.named (λ m. named_in s (single m)) e p.named_at ∙ named e)
     where
       named : (e : ℕ) → some_in 32 x (λ m. has (named_in s (single m)) e) ≡ has (named_in s x) e
       named e = bool_ext (some_in 32 x (λ m. has (named_in s (single m)) e)) (has (named_in s x) e) forth back
@@ -106,11 +104,3 @@ module _ (s plan : List ℕ) (p : Planned s plan) (x : ℕ) (b : x < 2 ^ 32) whe
               let m = source s u in
               some_in_i 32 x (λ i. has (named_in s (single i)) e) m (has-lt 32 x m b a.1.2) a.1.2
               (named_i s (single m) u e a.0 a.1.1 (single_i m) a.1.3)
-
--- the word of the root completed is a mode set
-pub start_word_lem : (s plan : List ℕ) → Planned s plan → get_or plan start_word 0 % 2 ^ 32 ≡ complete s (single 0)
-unfolding complete
-start_word_lem s plan p =
-    rw p.start_at
-    (mod-eq_of_lt
-    (lt_of_lt_of_le (set_of-lt (n_of s) (λ m. completed_in s m (single 0) m)) (pow-le-pow_right {n = 2} (omega arith) (n_le s (sound s p.passes)))))

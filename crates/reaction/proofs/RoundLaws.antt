@@ -18,7 +18,8 @@ use Rattle.meaning.specs.Hierarchy.{complete, exits, enters}
 use Rattle.meaning.specs.GivesWay.{gives_way}
 use Rattle.meaning.specs.Reaction.{TickSets, triggered, conflict, eligible, ambiguous, restless, exiting, entering, after_round}
 use Rattle.meaning.proofs.SheetLaws.{sound, n_le}
-use Rattle.reaction.specs.Plan.{ends_part, conflicts_part, next_part, conflicts_of, yielders_of, woken_by, next_of, Planned}
+use Rattle.reaction.specs.declared.plan.Plan.{Plan}
+use Rattle.reaction.specs.Plan.{conflicts_of, yielders_of, woken_by, next_of, Planned}
 use Rattle.reaction.specs.Rounds.{sets_of, after_ends, add_move, exits_of, MovesOf}
 use Rattle.reaction.specs.declared.tick.Sets.{Sets}
 use Rattle.reaction.specs.declared.tick.Moves.{Moves}
@@ -70,15 +71,15 @@ module _ (s : List ℕ) where
 
   -- ---- what transitions do together, by the words of the plan
 
-  module _ (plan : List ℕ) (pl : Planned s plan) (es : ℕ) (h : es < 2 ^ 64) (l : es < 2 ^ t_of s) where
+  module _ (plan : Plan) (pl : Planned s plan) (es : ℕ) (h : es < 2 ^ 64) (l : es < 2 ^ t_of s) where
     -- the part of a loop's moves that is read at a place of the plan
-    moved : (w at : ℕ) (part : Moves → ℕ) (g : ℕ → ℕ) → ((m : Moves) (t : ℕ) → part (add_move plan m t) ≡ union (part m) (get_or plan (at + t) 0))
-        → part no_moves ≡ 0 → ((t : ℕ) → t < t_of s → get_or plan (at + t) 0 ≡ g t) → ((t : ℕ) → g t < 2 ^ w)
+    moved : (w : ℕ) (words : List ℕ) (part : Moves → ℕ) (g : ℕ → ℕ) → ((m : Moves) (t : ℕ) → part (add_move plan m t) ≡ union (part m) (get_or words t 0))
+        → part no_moves ≡ 0 → ((t : ℕ) → t < t_of s → get_or words t 0 ≡ g t) → ((t : ℕ) → g t < 2 ^ w)
         → part (fold (add_move plan) no_moves (members 64 es)) ≡ set_of w (λ i. some_in (t_of s) es (λ t. has (g t) i))
-    moved w at part g e z r b =
-        fold_part (add_move plan) (λ x t. union x (get_or plan (at + t) 0)) part e no_moves (members 64 es)
-        ∙ ap (λ (x : ℕ). fold (λ y t. union y (get_or plan (at + t) 0)) x (members 64 es)) z
-        ∙ union_over 64 (t_of s) w es (λ t. get_or plan (at + t) 0) g h l r b
+    moved w words part g e z r b =
+        fold_part (add_move plan) (λ x t. union x (get_or words t 0)) part e no_moves (members 64 es)
+        ∙ ap (λ (x : ℕ). fold (λ y t. union y (get_or words t 0)) x (members 64 es)) z
+        ∙ union_over 64 (t_of s) w es (λ t. get_or words t 0) g h l r b
 
     abbrev all : Moves
     all = fold (add_move plan) no_moves (members 64 es)
@@ -91,7 +92,7 @@ module _ (s : List ℕ) where
     narrow k = lt_of_lt_of_le k (pow_mono (n_le s (sound s pl.passes)))
 
     ends_word : all.ends ≡ set_of 64 (λ i. some_in (t_of s) es (λ t. has (both t) i))
-    ends_word = moved 64 ends_part (λ m. m.ends) both (λ m t. refl) refl pl.ends_at (λ t. omega (arith, narrow (exits_small t), narrow (enters_small t)))
+    ends_word = moved 64 plan.ends (λ m. m.ends) both (λ m t. refl) refl pl.ends_at (λ t. omega (arith, narrow (exits_small t), narrow (enters_small t)))
 
     ends_at_lem : (i : ℕ) → i < 64 → has all.ends i ≡ some_in (t_of s) es (λ t. has (both t) i)
     ends_at_lem i k = ap (λ (x : ℕ). has x i) ends_word ∙ has-set_of 64 (λ j. some_in (t_of s) es (λ t. has (both t) j)) i k
@@ -126,8 +127,8 @@ module _ (s : List ℕ) where
         record {
           exits = exits_word;
           enters = enters_word;
-          clashes = moved (t_of s) conflicts_part (λ m. m.clashes) (conflicts_of s) (λ m t. refl) refl pl.conflicts_at (λ t. set_of-lt (t_of s) _);
-          next = moved (t_of s) next_part (λ m. m.next) (next_of s) (λ m t. refl) refl pl.next_at next_small;
+          clashes = moved (t_of s) plan.conflicts (λ m. m.clashes) (conflicts_of s) (λ m t. refl) refl pl.conflicts_at (λ t. set_of-lt (t_of s) _);
+          next = moved (t_of s) plan.next (λ m. m.next) (next_of s) (λ m t. refl) refl pl.next_at next_small;
         }
 
   -- ---- 8 and 9

@@ -7,6 +7,7 @@ use Prim.Native.Nat.{ℕ, suc, ◌+◌, ◌-◌, ◌*◌, ◌/◌, ◌%◌, ◌^
 use native.Mathlib.Nat.{sub-zero, lt_of_lt_of_le}
 use native.Mathlib.Numerals.{add-one}
 use native.Mathlib.Omega.{arith}
+use Rattle.std.specs.Prelude.{Option, Some, None}
 use lib.Dec.{T, eqb, ltb}
 use lib.Pow.{pow_mono}
 use borrow.Author.Tests.{ne_eqb}
@@ -15,9 +16,9 @@ use Rattle.sets.proofs.Tests.{is_false, of_false}
 use Rattle.sets.proofs.Membership.{has_none, same_members, set_of-lt, union-lt}
 use Rattle.meaning.specs.Sheet.{n_of, k_of, t_of, source}
 use Rattle.meaning.specs.Check.{sheet_refusal}
-use Rattle.meaning.specs.Refusal.{number_of}
+use Rattle.meaning.specs.Refusal.{number_or_0}
 use Rattle.meaning.specs.declared.refusal.Refusal.{Refusal}
-use Rattle.meaning.specs.declared.refusal.Refusal.TheVariants.{Nothing, Ambiguous, Restless}
+use Rattle.meaning.specs.declared.refusal.Refusal.TheVariants.{Ambiguous, Restless}
 use Rattle.meaning.specs.Hierarchy.{consistent}
 use Rattle.meaning.specs.Reaction.{TickSets, alternative, triggered, eligible, ambiguous, restless, entering, after_round}
 use Rattle.meaning.specs.Tick.{Tick, chosen}
@@ -55,7 +56,7 @@ module _ (s : List ℕ) (begun entered first i : ℕ) where
       record { within = omega arith; narrow = b; known = h.known; due = h.due; triggers = h.triggers; same = simp sub-zero }
 
   -- the tick ends with refusal `why`
-  given : {z : Sets} {ts r : ℕ} (why : Refusal) → Left z ts r → record { refusal = number_of why; sets = sets_of begun z; rounds = r } ≡ all
+  given : {z : Sets} {ts r : ℕ} (why : Option Refusal) → Left z ts r → record { refusal = number_or_0 why; sets = sets_of begun z; rounds = r } ≡ all
       → {t : Ticked} → t ≡ ended_so why z r → tick_of begun t ≡ all
   given {z} {ts} {r} why l p e =
       let low : (z.exited * 2 ^ 32 + z.entered) % 2 ^ 32 ≡ z.entered = omega (arith, l.narrow) in
@@ -63,11 +64,11 @@ module _ (s : List ℕ) (begun entered first i : ℕ) where
       ap (tick_of begun) e ∙ simp (low, high) p
 
   -- nothing is left
-  pub left_none : {z : Sets} {ts r : ℕ} → Left z ts r → t_of s < r → {t : Ticked} → t ≡ ended_so Nothing z r → tick_of begun t ≡ all
+  pub left_none : {z : Sets} {ts r : ℕ} → Left z ts r → t_of s < r → {t : Ticked} → t ≡ ended_so None z r → tick_of begun t ≡ all
   unfolding rounds_by
   left_none {z} {ts} {r} l h =
       let e : suc (t_of s) - r ≡ 0 = omega arith in
-      given Nothing l (ap (λ (f : ℕ). rounds_by s f i (sets_of begun z) ts r) (sym e) ∙ l.same)
+      given None l (ap (λ (f : ℕ). rounds_by s f i (sets_of begun z) ts r) (sym e) ∙ l.same)
 
 -- one more round
 module _ {s : List ℕ} {begun entered first i : ℕ} {z : Sets} {ts r : ℕ} (l : Left s begun entered first i z ts r) (w : r ≤ t_of s) where
@@ -82,8 +83,8 @@ module _ {s : List ℕ} {begun entered first i : ℕ} {z : Sets} {ts r : ℕ} (l
       let f : suc (t_of s) - r ≡ suc (t_of s - r) = omega arith in
       ap (λ (x : ℕ). rounds_by s x i (sets_of begun z) ts r) (sym f) ∙ l.same
 
-  pub round_still : ts ≡ 0 → {t : Ticked} → t ≡ ended_so Nothing z r → tick_of begun t ≡ all s begun entered first i
-  round_still e = given s begun entered first i Nothing l (rw (ap (eligible s) e ∙ eligible_none s) at next)
+  pub round_still : ts ≡ 0 → {t : Ticked} → t ≡ ended_so None z r → tick_of begun t ≡ all s begun entered first i
+  round_still e = given s begun entered first i None l (rw (ap (eligible s) e ∙ eligible_none s) at next)
 
   module _ (h : sheet_refusal s ≡ 0) (filled : ts ≡ 0 → ⊥) {o : Round} (c : RoundOf s ts o) where
     abbrev es : ℕ
@@ -110,16 +111,16 @@ module _ {s : List ℕ} {begun entered first i : ℕ} {z : Sets} {ts r : ℕ} (l
         (rounds_by s (t_of s - r) i (after_round s (sets_of begun z) x) (triggered s 0 i (after_round s (sets_of begun z) x)) (suc r)))) c.chosen
         ∙ (rw (ne_eqb (eligible s ts) 0 some) at next)
 
-    pub round_ambiguous : meets o.moves.clashes es ≡ true → {t : Ticked} → t ≡ ended_so Ambiguous z r → tick_of begun t ≡ all s begun entered first i
-    round_ambiguous b = given s begun entered first i Ambiguous l (rw (sym (clash s es o.moves c.moves) ∙ b) at next_by)
+    pub round_ambiguous : meets o.moves.clashes es ≡ true → {t : Ticked} → t ≡ ended_so (Some Ambiguous) z r → tick_of begun t ≡ all s begun entered first i
+    round_ambiguous b = given s begun entered first i (Some Ambiguous) l (rw (sym (clash s es o.moves c.moves) ∙ b) at next_by)
 
     module _ (b : meets o.moves.clashes es ≡ false) where
       small : es < 2 ^ t_of s
       small = rw c.chosen (eligible_small s ts)
 
-      pub round_restless : meets es z.taken ≡ true → {t : Ticked} → t ≡ ended_so Restless z r → tick_of begun t ≡ all s begun entered first i
+      pub round_restless : meets es z.taken ≡ true → {t : Ticked} → t ≡ ended_so (Some Restless) z r → tick_of begun t ≡ all s begun entered first i
       round_restless q =
-          given s begun entered first i Restless l
+          given s begun entered first i (Some Restless) l
           (rw (sym (clash s es o.moves c.moves) ∙ b, sym (taken_again s (sets_of begun z) es small) ∙ q) at next_by)
 
       module _ (q : meets es z.taken ≡ false) (v : i < 2 ^ k_of s) where

@@ -2,10 +2,9 @@
 use mathlib.Core.Path.{◌≡◌, refl, sym, ap, ap₂, ◌∙◌, subst}
 use mathlib.Core.Bool.{Bool, true, false, ◌&&◌, cond}
 use mathlib.Core.List.{List}
-use Prim.Native.Nat.{ℕ, suc, ◌%◌, ◌^◌, ◌<◌}
+use Prim.Native.Nat.{ℕ, suc, ◌^◌, ◌<◌}
 use lib.Dec.{T, eqb, ltb}
 use lib.Bits.{or_zero_l, or_zero_r, or_self}
-use lib.ListN.{get_or}
 use borrow.Author.Tests.{eqb-true, eqb-false, ne_eqb}
 use Rattle.sets.specs.Sets.{has, union, meet, single, those}
 use Rattle.sets.proofs.Tests.{is_true, of_true}
@@ -19,27 +18,28 @@ use Rattle.meaning.specs.Tick.{Tick, begin, tick}
 use Rattle.meaning.proofs.SheetLaws.{sound}
 use Rattle.meaning.proofs.Consistency.{begin-consistent}
 use Rattle.meaning.proofs.TickLaws.{begin_by}
-use Rattle.reaction.specs.Plan.{mixed_word, early_word, start_word, Planned, sources_in, hits_of, mixed, early}
+use Rattle.reaction.specs.declared.plan.Plan.{Plan}
+use Rattle.reaction.specs.Plan.{Planned, sources_in, hits_of, mixed, early}
 use Rattle.reaction.specs.Facts.{open_facts, alternative_by}
 use Rattle.reaction.specs.Rounds.{sets_of, first_sets, start_sets, rounds_by, StartOf, Before, Begun}
 use Rattle.reaction.specs.declared.tick.Start.{Start}
-use Rattle.reaction.proofs.PlanLaws.{start_word_lem, sources_on}
+use Rattle.reaction.proofs.PlanLaws.{sources_on}
 use Rattle.reaction.proofs.TriggerLaws.{mixed_e}
 use Rattle.reaction.proofs.EarlyLaws.{begins, first_triggered_lem, first_power_on}
 use Rattle.reaction.proofs.NextLaws.{rounds_by_lem}
 
 -- ---- by the words of the plan
 
-module _ (s plan : List ℕ) (p : Planned s plan) {x live : ℕ} where
-  pub start_power_on : {y : ℕ} → x ≡ 0 → y ≡ get_or plan start_word 0 % 2 ^ 32 → live ≡ sources_in s y
-      → StartOf s x (record { begun = y; entered = y; live = live; unsure = meet live (get_or plan mixed_word 0) })
+module _ (s : List ℕ) (plan : Plan) (p : Planned s plan) {x live : ℕ} where
+  pub start_power_on : {y : ℕ} → x ≡ 0 → y ≡ plan.start → live ≡ sources_in s y
+      → StartOf s x (record { begun = y; entered = y; live = live; unsure = meet live (plan.mixed) })
   unfolding begin
   start_power_on {y} z e l =
-      subst (λ (x : ℕ). StartOf s x (record { begun = y; entered = y; live = live; unsure = meet live (get_or plan mixed_word 0) })) (sym z)
-      (record { begun = e ∙ start_word_lem s plan p; entered = e ∙ start_word_lem s plan p; live = l; unsure = ap (meet live) p.judged_at })
+      subst (λ (x : ℕ). StartOf s x (record { begun = y; entered = y; live = live; unsure = meet live (plan.mixed) })) (sym z)
+      (record { begun = e ∙ p.start_at; entered = e ∙ p.start_at; live = l; unsure = ap (meet live) p.judged_at })
 
   pub start_other : (x ≡ 0 → ⊥) → live ≡ sources_in s x
-      → StartOf s x (record { begun = x; entered = 0; live = live; unsure = meet live (get_or plan early_word 0) })
+      → StartOf s x (record { begun = x; entered = 0; live = live; unsure = meet live (plan.early) })
   start_other n l =
       record {
         begun = ap (λ (z : TickSets). z.modes) (begins s x n);

@@ -10,7 +10,7 @@ use native.Mathlib.Numerals.{add-one}
 use native.Mathlib.Omega.{arith}
 use lib.Dec.{T, eqb, leb, ltb, eqb→eq, ltb→lt}
 use lib.Arith.{lt_of_le-ne}
-use lib.ListN.{get_or}
+use lib.ListN.{length, get_or}
 use borrow.Author.Tests.{eq-eqb, ne_eqb, lt-ltb}
 use Rattle.sets.specs.Sets.{some_in}
 use Rattle.sets.proofs.Tests.{of_true, of_false, and_l, and_r, or_e, above_not}
@@ -114,6 +114,10 @@ pub count_le : {s : List ℕ} {t : ℕ} → Record s t → term_count s t ≤ 16
 unfolding term_count
 count_le {s} {t} r = omega (arith, placed r)
 
+pub terms_room : {s : List ℕ} {t : ℕ} → Record s t → offset s t + 2 + 2 * term_count s t ≤ length s
+unfolding term_count
+terms_room {s} {t} r = omega (arith, placed r)
+
 -- ---- the loop over the terms: what is left from term j on
 
 module _ (s f : List ℕ) (t : ℕ) where
@@ -189,19 +193,6 @@ module _ (s f : List ℕ) (t : ℕ) where
       go : (k : Bool) → ltb 0 (cond k 1 0) ≡ k
       go true = refl
       go false = refl
-
--- ---- the kinds of a term that speak of events
-
-module _ (s : List ℕ) (c : ℕ) where
-  pub event_kind : (c ≡ 1) ⊎ ((c ≡ 2) ⊎ (c ≡ 7)) → is_event_kind c ≡ true
-  unfolding is_event_kind
-  event_kind (inl e) = rw e
-  event_kind (inr (inl e)) = rw e
-  event_kind (inr (inr e)) = rw e
-
-  pub no_event_kind : (c ≡ 1 → ⊥) → (c ≡ 2 → ⊥) → (c ≡ 7 → ⊥) → is_event_kind c ≡ false
-  unfolding is_event_kind
-  no_event_kind p q r = rw (ne_eqb c 1 p, ne_eqb c 2 q, ne_eqb c 7 r)
 
 -- ---- the words of a tick say of a term what its sets say
 

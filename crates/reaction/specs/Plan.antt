@@ -1,5 +1,5 @@
--- The plan: what depends on the sheet alone, in one array of words. Assumes nothing.
-use Rattle.std.specs.Prelude.{◌≡◌, Bool, not, ◌&&◌, ◌||◌, cond, List, ℕ, ◌+◌, ◌*◌, ◌^◌, ◌<◌, eqb, ltb, get_or}
+-- The plan: what depends on the sheet alone. Assumes nothing.
+use Rattle.std.specs.Prelude.{◌≡◌, Bool, not, ◌&&◌, ◌||◌, cond, List, ℕ, ◌+◌, ◌*◌, ◌^◌, ◌<◌, eqb, ltb, get_or, replicate}
 use Rattle.sets.specs.Sets.{has, union, meets, single, set_of, those, some, every}
 use Rattle.meaning.specs.Sheet.{k_of, t_of, source, term_count, term_kind, term_value}
 use Rattle.meaning.specs.Check.{sheet_refusal}
@@ -8,65 +8,26 @@ use Rattle.meaning.specs.GivesWay.{gives_way}
 use Rattle.meaning.specs.Reaction.{TickSets, is_delay, delay, is_timer, alternative, conflict}
 use Rattle.meaning.specs.NamedEvents.{names}
 use Rattle.reaction.specs.Facts.{open_facts, alternative_by}
+use Rattle.reaction.specs.declared.plan.Plan.{Plan}
 
--- ---- where the parts of the plan begin: 64 words each, one for a transition or an input set, but 32 from `from_part` on, one for a
--- mode; then five words and the end
-
--- the modes that a transition exits if they are active and, from bit 32 on, those that it enters
-abbrev pub ends_part : ℕ
-ends_part = 0
-
--- the other transitions in conflict with a transition
-abbrev pub conflicts_part : ℕ
-conflicts_part = 64
-
--- the transitions that give way to a transition
-abbrev pub yielders_part : ℕ
-yielders_part = 128
-
--- the transitions that a round which takes a transition can trigger next
-abbrev pub next_part : ℕ
-next_part = 192
-
--- the delay of a timer, 0 of another transition
-abbrev pub delays_part : ℕ
-delays_part = 256
-
--- the transitions that an input set triggers by itself
-abbrev pub hits_part : ℕ
-hits_part = 320
-
--- the transitions whose source is a mode
-abbrev pub from_part : ℕ
-from_part = 384
-
--- the events that transitions name whose source is a mode
-abbrev pub named_part : ℕ
-named_part = 416
-
--- the timers
-abbrev pub timers_word : ℕ
-timers_word = 448
-
--- the transitions whose terms are judged
-abbrev pub mixed_word : ℕ
-mixed_word = 449
-
--- those of them that are judged where a tick begins
-abbrev pub early_word : ℕ
-early_word = 450
-
--- the events that any transition names
-abbrev pub events_word : ℕ
-events_word = 451
-
--- the root, completed
-abbrev pub start_word : ℕ
-start_word = 452
-
--- how many words a plan is
-abbrev pub plan_size : ℕ
-plan_size = 453
+-- a plan to be filled in
+abbrev pub no_plan : Plan
+no_plan =
+    record {
+      ends = replicate 64 0;
+      conflicts = replicate 64 0;
+      yielders = replicate 64 0;
+      next = replicate 64 0;
+      delays = replicate 64 0;
+      hits = replicate 64 0;
+      from = replicate 32 0;
+      named = replicate 32 0;
+      timers = 0;
+      mixed = 0;
+      early = 0;
+      events = 0;
+      start = 0;
+    }
 
 -- the sets of a tick in which nothing has happened
 abbrev pub no_sets : TickSets
@@ -137,19 +98,19 @@ module _ (s : List ℕ) where
   unfoldable pub named_all : ℕ
   named_all = set_of (k_of s) (λ e. some (t_of s) (λ t. names s t e))
 
-  -- the sheet passes 1 to 6, and an array of words is its plan
-  pub record Planned (plan : List ℕ) : Type 0 where
+  -- the sheet passes 1 to 6, and a plan is its own
+  pub record Planned (plan : Plan) : Type 0 where
     pub passes : sheet_refusal s ≡ 0
-    pub ends_at : (t : ℕ) → t < t_of s → get_or plan (ends_part + t) 0 ≡ enters s t * 2 ^ 32 + exits s t
-    pub conflicts_at : (t : ℕ) → t < t_of s → get_or plan (conflicts_part + t) 0 ≡ conflicts_of t
-    pub yielders_at : (t : ℕ) → t < t_of s → get_or plan (yielders_part + t) 0 ≡ yielders_of t
-    pub next_at : (t : ℕ) → t < t_of s → get_or plan (next_part + t) 0 ≡ next_of t
-    pub delays_at : (t : ℕ) → t < 64 → get_or plan (delays_part + t) 0 ≡ timer_delay t
-    pub hits_at : (i : ℕ) → i < 2 ^ k_of s → get_or plan (hits_part + i) 0 ≡ hits_of i
-    pub from_at : (m : ℕ) → m < 32 → get_or plan (from_part + m) 0 ≡ sources_in (single m)
-    pub named_at : (m : ℕ) → m < 32 → get_or plan (named_part + m) 0 ≡ named_in (single m)
-    pub timing_at : get_or plan timers_word 0 ≡ timers
-    pub judged_at : get_or plan mixed_word 0 ≡ mixed
-    pub early_at : get_or plan early_word 0 ≡ early
-    pub events_at : get_or plan events_word 0 ≡ named_all
-    pub start_at : get_or plan start_word 0 ≡ complete s (single 0)
+    pub ends_at : (t : ℕ) → t < t_of s → get_or plan.ends t 0 ≡ enters s t * 2 ^ 32 + exits s t
+    pub conflicts_at : (t : ℕ) → t < t_of s → get_or plan.conflicts t 0 ≡ conflicts_of t
+    pub yielders_at : (t : ℕ) → t < t_of s → get_or plan.yielders t 0 ≡ yielders_of t
+    pub next_at : (t : ℕ) → t < t_of s → get_or plan.next t 0 ≡ next_of t
+    pub delays_at : (t : ℕ) → t < 64 → get_or plan.delays t 0 ≡ timer_delay t
+    pub hits_at : (i : ℕ) → i < 2 ^ k_of s → get_or plan.hits i 0 ≡ hits_of i
+    pub from_at : (m : ℕ) → m < 32 → get_or plan.from m 0 ≡ sources_in (single m)
+    pub named_at : (m : ℕ) → m < 32 → get_or plan.named m 0 ≡ named_in (single m)
+    pub timing_at : plan.timers ≡ timers
+    pub judged_at : plan.mixed ≡ mixed
+    pub early_at : plan.early ≡ early
+    pub events_at : plan.events ≡ named_all
+    pub start_at : plan.start ≡ complete s (single 0)

@@ -1,21 +1,26 @@
 -- What is reported of a transition in a tick, from the triggered transitions on; and the enum that the code reports. Assumes nothing.
-use Rattle.std.specs.Prelude.{Bool, not, ◌&&◌, ◌||◌, cond, List, ℕ, zero, suc, eqb}
+use Rattle.std.specs.Prelude.{Result, Ok, Err, Bool, not, ◌&&◌, ◌||◌, cond, List, ℕ, zero, suc, eqb}
 use Rattle.sets.specs.Sets.{has, lowest}
 use Rattle.meaning.specs.Sheet.{t_of, source}
 use Rattle.meaning.specs.Refusal.{number_of}
+use Rattle.meaning.specs.declared.refusal.Refusal.{Refusal}
 use Rattle.meaning.specs.Reaction.{TickSets, triggered, eligible, ambiguous, restless, after_round}
 use Rattle.meaning.specs.Tick.{Tick}
 use Rattle.meaning.specs.Why.{Report, refused, never_active, never_triggered, gave_way_to, taken_in, ahead_of}
 use Rattle.reaction.specs.Causes.{cause}
 use Rattle.reaction.specs.declared.why.Why.{Why}
-use Rattle.reaction.specs.declared.why.Why.TheVariants.{Refused, NeverActive, NeverTriggered, GaveWay, Taken}
+use Rattle.reaction.specs.declared.why.Why.TheVariants.{NeverActive, NeverTriggered, GaveWay, Taken}
 
 abbrev pub report_of : Why → Report
-report_of (Refused e) = refused (number_of e)
 report_of NeverActive = never_active
 report_of NeverTriggered = never_triggered
 report_of (GaveWay u) = gave_way_to u
 report_of (Taken r a) = taken_in r a
+
+-- of a call that is refused or reports
+abbrev pub answer_of : Result Why Refusal → Report
+answer_of (Ok why) = report_of why
+answer_of (Err e) = refused (number_of e)
 
 module _ (s : List ℕ) where
   -- what the rounds from the triggered transitions ts on, after r rounds, report of transition t: as `reason`, but timers are due in the

@@ -1,13 +1,14 @@
 -- The structs of a tick as the sets and ticks of the meaning. Assumes nothing.
-use Rattle.std.specs.Prelude.{◌≡◌, ◌⊎◌, cond, List, ℕ, zero, suc, ◌+◌, ◌*◌, ◌/◌, ◌%◌, ◌^◌, ◌<◌, T, eqb, get_or}
+use Rattle.std.specs.Prelude.{Option, ◌≡◌, ◌⊎◌, cond, List, ℕ, zero, suc, ◌+◌, ◌*◌, ◌/◌, ◌%◌, ◌^◌, ◌<◌, T, eqb, get_or}
 use Rattle.sets.specs.Sets.{has, union, meet, minus, set_of, some_in}
 use Rattle.meaning.specs.Sheet.{n_of, t_of}
-use Rattle.meaning.specs.Refusal.{number_of}
+use Rattle.meaning.specs.Refusal.{number_or_0}
 use Rattle.meaning.specs.declared.refusal.Refusal.{Refusal}
 use Rattle.meaning.specs.Hierarchy.{consistent, exits}
 use Rattle.meaning.specs.Reaction.{TickSets, is_timer, triggered, eligible, ambiguous, restless, entering, after_round}
 use Rattle.meaning.specs.Tick.{Tick, begin}
-use Rattle.reaction.specs.Plan.{ends_part, conflicts_part, next_part, sources_in, conflicts_of, mixed, early, next_of}
+use Rattle.reaction.specs.declared.plan.Plan.{Plan}
+use Rattle.reaction.specs.Plan.{sources_in, conflicts_of, mixed, early, next_of}
 use Rattle.reaction.specs.declared.tick.Sets.{Sets}
 use Rattle.reaction.specs.declared.tick.Ticked.{Ticked}
 use Rattle.reaction.specs.declared.tick.Moves.{Moves}
@@ -24,13 +25,13 @@ abbrev pub tick_of : ℕ → Ticked → Tick
 tick_of begun r =
     let entered = r.changed % 2 ^ 32 in
     record {
-      refusal = number_of r.refusal;
+      refusal = number_or_0 r.refusal;
       sets = record { modes = r.modes; entered = entered; exited = r.changed / 2 ^ 32; active = union begun entered; taken = r.taken };
       rounds = r.rounds;
     }
 
 -- what a tick gives whose rounds ended so
-abbrev pub ended_so : Refusal → Sets → ℕ → Ticked
+abbrev pub ended_so : Option Refusal → Sets → ℕ → Ticked
 ended_so why z r = record { refusal = why; rounds = r; modes = z.modes; changed = z.exited * 2 ^ 32 + z.entered; taken = z.taken }
 
 -- what is carried from round to round, before the first
@@ -52,12 +53,12 @@ after_ends z ends es =
     }
 
 -- the moves m of some transitions, and of transition t besides, by the words of the plan
-abbrev pub add_move : List ℕ → Moves → ℕ → Moves
+abbrev pub add_move : Plan → Moves → ℕ → Moves
 add_move plan m t =
     record {
-      ends = union m.ends (get_or plan (ends_part + t) 0);
-      clashes = union m.clashes (get_or plan (conflicts_part + t) 0);
-      next = union m.next (get_or plan (next_part + t) 0);
+      ends = union m.ends (get_or plan.ends t 0);
+      clashes = union m.clashes (get_or plan.conflicts t 0);
+      next = union m.next (get_or plan.next t 0);
     }
 
 module _ (s : List ℕ) where

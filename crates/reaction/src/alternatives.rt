@@ -9,11 +9,11 @@ ghost use Rattle.reaction.specs.Plan.{Planned};
 ghost use Rattle.reaction.specs.Rounds.{sets_of, tick_of, start_sets, rounds_by, Begun};
 ghost use Rattle.reaction.specs.Causes.{cause_by, cause, fired_by};
 
-use super::plan::{MIXED, Plan, hits};
+use super::plan::{Plan, hits};
 use super::terms::{alternative, facts, is_delay};
 use super::tick::{Sets, Start, Ticked, after_round, round_of, triggered};
 use rows::put_zeros;
-use sets::transitions;
+use sets::set::Set;
 use sheet::words::term_count;
 
 // Why transition t, which is triggered, is: 9 for a delay, else the lowest alternative that holds. The terms are judged only where
@@ -49,11 +49,8 @@ fn put_causes(
         cond (has es t) (cause sheet.now input (sets_of begun z) t) (get_or numbers.old (at + t) 0))) }
 {
     let f = facts(input, z.entered, z.exited, begun | z.entered, z.taken);
-    let mut rest = es;
-    while rest != 0 {
-        let t = transitions::lowest(rest);
+    for t in es.members() {
         numbers[at + t] = cause(sheet, t, &f);
-        rest = transitions::without_lowest(rest);
     }
 }
 
@@ -77,7 +74,7 @@ pub fn put_numbers(
         (fired_by sheet.now (suc (t_of sheet.now)) input (start_sets b) first)) }
 {
     let hits = hits(sheet, plan, input);
-    let mixed = plan[MIXED];
+    let mixed = plan.mixed;
     let mut z = Sets {
         modes: b.begun,
         entered: b.entered,
@@ -85,17 +82,15 @@ pub fn put_numbers(
         taken: 0,
     };
     let mut ts = first;
-    let mut r = 0u32;
     put_zeros(numbers, at);
-    while r + 1 < o.rounds {
+    for _ in 1..o.rounds {
         let round = round_of(sheet, plan, ts);
         let es = round.chosen;
         let m = round.moves;
         put_causes(sheet, es, z, b.begun, input, numbers, at);
         z = after_round(z, m.ends, es);
         ts = triggered(sheet, m.next & hits, m.next & mixed, z, b.begun, input);
-        r += 1;
     }
-    let last = transitions::minus(o.taken, z.taken);
+    let last = o.taken.minus(z.taken);
     put_causes(sheet, last, z, b.begun, input, numbers, at);
 }

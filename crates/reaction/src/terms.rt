@@ -7,7 +7,8 @@ ghost use Rattle.meaning.specs.Reaction.{is_delay, delay, is_timer};
 ghost use Rattle.reaction.specs.Plan.{events_only};
 ghost use Rattle.reaction.specs.Facts.{holds_by, alternative_by};
 
-use sets::{modes, transitions};
+use sets::set::Set;
+use sheet::kinds::TermKind;
 use sheet::words::{offset, source, term_count, term_kind, term_value, wide};
 
 // Transition t has a delay.
@@ -15,7 +16,7 @@ pub fn is_delay(sheet: &[u32], t: usize) -> bool
     requires { (sheet_refusal sheet.now ≡ 0) × (t < t_of sheet.now) }
     ensures { result ≡ is_delay sheet.now t }
 {
-    term_kind(sheet, t, 0) == 0
+    term_kind(sheet, t, 0) == TermKind::Delay as u32
 }
 
 // The delay of a transition that has one.
@@ -41,11 +42,11 @@ pub fn facts(input: u32, entered: u32, exited: u32, active: u32, taken: u64) -> 
 {
     [
         0,
-        input as u64,
-        (!input) as u64,
-        active as u64,
-        entered as u64,
-        exited as u64,
+        u64::from(input),
+        u64::from(!input),
+        u64::from(active),
+        u64::from(entered),
+        u64::from(exited),
         taken,
         0,
     ]
@@ -56,8 +57,8 @@ fn holds(f: &[u64; 8], kind: usize, v: u32) -> bool
     requires { (kind < 7) × ((kind ≡ 3 → ⊥) → v < 64) }
     ensures { result ≡ holds_by f.now kind v }
 {
-    if kind == 3 {
-        return (v as u64) & f[3] != 0;
+    if kind == TermKind::Active as usize {
+        return u64::from(v) & f[kind] != 0;
     }
     (f[kind] >> v) & 1 == 1
 }
@@ -67,23 +68,20 @@ pub fn alternative(sheet: &[u32], t: usize, f: &[u64; 8]) -> u32
     requires { (sheet_refusal sheet.now ≡ 0) × (t < t_of sheet.now) × (is_delay sheet.now t ≡ false) }
     ensures { result ≡ alternative_by sheet.now f.now t }
 {
-    let count = term_count(sheet, t);
     let at = offset(sheet, t) + 2;
     let mut a = 1;
     let mut ok = true;
-    let mut j = 0;
-    while j < count {
+    for j in 0..term_count(sheet, t) {
         let kind = wide(sheet[at + 2 * j]);
-        if kind == 7 {
+        if kind == TermKind::Or as usize {
             if ok {
                 return a;
             }
             a += 1;
             ok = true;
         } else {
-            ok = ok & holds(f, kind, sheet[at + 2 * j + 1]);
+            ok &= holds(f, kind, sheet[at + 2 * j + 1]);
         }
-        j += 1;
     }
     if ok { a } else { 0 }
 }
@@ -93,16 +91,12 @@ pub fn events_only(sheet: &[u32], t: usize) -> bool
     requires { (sheet_refusal sheet.now ≡ 0) × (t < t_of sheet.now) }
     ensures { result ≡ events_only sheet.now t }
 {
-    let count = term_count(sheet, t);
-    let mut j = 0;
-    while j < count {
-        let kind = term_kind(sheet, t, j);
-        if kind != 1 && kind != 2 && kind != 7 {
-            return false;
-        }
-        j += 1;
-    }
-    true
+    (0..term_count(sheet, t)).all(|j| {
+        matches!(
+            TermKind::try_from(term_kind(sheet, t, j)),
+            Ok(TermKind::Present | TermKind::Absent | TermKind::Or)
+        )
+    })
 }
 
 // Transition t is triggered by its terms: its source is in a mode set, and they hold. Not for a delay transition.
@@ -111,7 +105,7 @@ fn is_judged(sheet: &[u32], modes: u32, t: usize, f: &[u64; 8]) -> bool
     ensures { result ≡ (has modes (source sheet.now t)
         && ltb 0 (alternative_by sheet.now f.now t)) }
 {
-    modes::has(modes, source(sheet, t)) && alternative(sheet, t, f) != 0
+    modes.has(source(sheet, t)) && alternative(sheet, t, f) != 0
 }
 
 // Those of a set of transitions, none with a delay, that are triggered by their terms.
@@ -122,13 +116,10 @@ pub fn judged(sheet: &[u32], modes: u32, set: u64, f: &[u64; 8]) -> u64
         && ltb 0 (alternative_by sheet.now f.now t)) }
 {
     let mut r = 0u64;
-    let mut rest = set;
-    while rest != 0 {
-        let t = transitions::lowest(rest);
+    for t in set.members() {
         if is_judged(sheet, modes, t, f) {
-            r |= transitions::single(t);
+            r |= u64::single(t);
         }
-        rest = transitions::without_lowest(rest);
     }
     r
 }

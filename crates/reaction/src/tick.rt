@@ -9,13 +9,12 @@ ghost use Rattle.meaning.specs.Tick.{five_words};
 ghost use Rattle.reaction.specs.Plan.{Planned, yielders_of};
 ghost use Rattle.reaction.specs.Rounds.{sets_of, tick_of, ended_so, first_sets, start_sets, after_ends, add_move, MovesOf, RoundOf, rounds_by, StartOf, Before, Begun};
 
-use super::plan::{
-    CONFLICTS, EARLY, ENDS, MIXED, NEXT, Plan, START, YIELDERS, from_set, hits, mode_set,
-};
+use super::plan::{Plan, from_set, hits};
 use super::terms::{facts, judged};
 use meaning::refusal::Refusal;
 use rows::Five;
-use sets::{modes, transitions};
+use sets::set::Set;
+use sets::transitions;
 use sheet::words::{transition_count, wide};
 
 // What is carried from round to round: the current modes, those entered and exited in the tick, the transitions taken.
@@ -31,7 +30,7 @@ pub struct Sets {
 // taken, and its rounds.
 #[derive(Clone, Copy)]
 pub struct Ticked {
-    pub refusal: Refusal,
+    pub refusal: Option<Refusal>,
     pub rounds: u32,
     pub modes: u32,
     pub changed: u64,
@@ -85,10 +84,8 @@ fn yielding(sheet: &[u32], plan: &Plan, ts: u64) -> u64
         (λ u. some_in (t_of sheet.now) ts (λ t. has (yielders_of sheet.now t) u)) }
 {
     let mut r = 0u64;
-    let mut rest = ts;
-    while rest != 0 {
-        r |= plan[YIELDERS + transitions::lowest(rest)];
-        rest = transitions::without_lowest(rest);
+    for t in ts.members() {
+        r |= plan.yielders[t];
     }
     r
 }
@@ -98,7 +95,7 @@ fn eligible(sheet: &[u32], plan: &Plan, ts: u64) -> u64
     requires { Planned sheet.now plan.now × (ts < 2 ^ t_of sheet.now) }
     ensures { result ≡ eligible sheet.now ts }
 {
-    transitions::minus(ts, yielding(sheet, plan, ts))
+    ts.minus(yielding(sheet, plan, ts))
 }
 
 // The moves of some transitions, and of transition t besides.
@@ -107,9 +104,9 @@ fn with_move(plan: &Plan, m: Moves, t: usize) -> Moves
     ensures { result ≡ add_move plan.now m t }
 {
     Moves {
-        ends: m.ends | plan[ENDS + t],
-        clashes: m.clashes | plan[CONFLICTS + t],
-        next: m.next | plan[NEXT + t],
+        ends: m.ends | plan.ends[t],
+        clashes: m.clashes | plan.conflicts[t],
+        next: m.next | plan.next[t],
     }
 }
 
@@ -123,10 +120,8 @@ fn moves_of(sheet: &[u32], plan: &Plan, es: u64) -> Moves
         clashes: 0,
         next: 0,
     };
-    let mut rest = es;
-    while rest != 0 {
-        r = with_move(plan, r, transitions::lowest(rest));
-        rest = transitions::without_lowest(rest);
+    for t in es.members() {
+        r = with_move(plan, r, t);
     }
     r
 }
@@ -137,7 +132,7 @@ pub fn round_of(sheet: &[u32], plan: &Plan, ts: u64) -> Round
     ensures { RoundOf sheet.now ts result }
 {
     let all = moves_of(sheet, plan, ts);
-    if !transitions::meets(all.clashes, ts) {
+    if !all.clashes.meets(ts) {
         return Round {
             chosen: ts,
             moves: all,
@@ -155,7 +150,7 @@ pub fn after_round(z: Sets, ends: u64, es: u64) -> Sets
     let exits = transitions::low(ends);
     let enters = transitions::high(ends);
     Sets {
-        modes: modes::minus(z.modes, exits) | enters,
+        modes: z.modes.minus(exits) | enters,
         entered: z.entered | enters,
         exited: z.exited | (z.modes & exits),
         taken: z.taken | es,
@@ -163,7 +158,7 @@ pub fn after_round(z: Sets, ends: u64, es: u64) -> Sets
 }
 
 // What a tick gives whose rounds ended so.
-fn ended(refusal: Refusal, z: Sets, rounds: u32) -> Ticked
+fn ended(refusal: Option<Refusal>, z: Sets, rounds: u32) -> Ticked
     ensures { result ≡ ended_so refusal z rounds }
 {
     Ticked {
@@ -192,7 +187,7 @@ pub fn rounds(
 {
     let most = transition_count(sheet);
     let hits = hits(sheet, plan, input);
-    let mixed = plan[MIXED];
+    let mixed = plan.mixed;
     let mut z = Sets {
         modes: begun,
         entered,
@@ -201,24 +196,25 @@ pub fn rounds(
     };
     let mut ts = first;
     let mut r = 0u32;
+    // Counted by hand: with a range here the tick of a cell costs a tenth more.
     while wide(r) <= most {
         if ts == 0 {
-            return ended(Refusal::Nothing, z, r);
+            return ended(None, z, r);
         }
         let round = round_of(sheet, plan, ts);
         let es = round.chosen;
         let m = round.moves;
-        if transitions::meets(m.clashes, es) {
-            return ended(Refusal::Ambiguous, z, r);
+        if m.clashes.meets(es) {
+            return ended(Some(Refusal::Ambiguous), z, r);
         }
-        if transitions::meets(es, z.taken) {
-            return ended(Refusal::Restless, z, r);
+        if es.meets(z.taken) {
+            return ended(Some(Refusal::Restless), z, r);
         }
         z = after_round(z, m.ends, es);
         ts = triggered(sheet, m.next & hits, m.next & mixed, z, begun, input);
         r += 1;
     }
-    ended(Refusal::Nothing, z, r)
+    ended(None, z, r)
 }
 
 // What a tick from a mode set (0: power-on) begins with.
@@ -227,13 +223,13 @@ pub fn start_of(sheet: &[u32], plan: &Plan, set: u32) -> Start
     ensures { StartOf sheet.now set result }
 {
     if set == 0 {
-        let begun = mode_set(plan, START);
+        let begun = plan.start;
         let live = from_set(sheet, plan, begun);
         return Start {
             begun,
             entered: begun,
             live,
-            unsure: live & plan[MIXED],
+            unsure: live & plan.mixed,
         };
     }
     let live = from_set(sheet, plan, set);
@@ -241,7 +237,7 @@ pub fn start_of(sheet: &[u32], plan: &Plan, set: u32) -> Start
         begun: set,
         entered: 0,
         live,
-        unsure: live & plan[EARLY],
+        unsure: live & plan.early,
     }
 }
 

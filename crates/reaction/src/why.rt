@@ -8,18 +8,17 @@ ghost use Rattle.reaction.specs.Rounds.{tick_of, start_sets, rounds_by, Begun};
 ghost use Rattle.reaction.specs.Reasons.{report_of, rounds_report, reason_by};
 
 use super::alternatives::cause;
-use super::plan::{MIXED, Plan, YIELDERS, hits};
+use super::plan::{Plan, hits};
 use super::terms::facts;
 use super::tick::{Sets, Start, Ticked, after_round, round_of, triggered};
-use meaning::refusal::Refusal;
-use sets::{modes, transitions};
+use sets::set::Set;
+use sets::transitions;
 use sheet::words::source;
 
-// What is reported of a transition: a refusal; its source was never active; it was never triggered; it gave way to a transition; it was
+// What is reported of a transition in a tick that is not refused: its source was never active; it was never triggered; it gave way to a transition; it was
 // taken in a round, counted from 1, by an alternative.
 #[derive(Clone, Copy)]
 pub enum Why {
-    Refused(Refusal),
     NeverActive,
     NeverTriggered,
     GaveWay(u32),
@@ -32,13 +31,10 @@ fn ahead_of(sheet: &[u32], plan: &Plan, ts: u64, t: usize) -> u64
     ensures { result ≡ those (t_of sheet.now) ts (gives_way sheet.now t) }
 {
     let mut r = 0u64;
-    let mut rest = ts;
-    while rest != 0 {
-        let u = transitions::lowest(rest);
-        if transitions::has(plan[YIELDERS + u], t) {
-            r |= transitions::single(u);
+    for u in ts.members() {
+        if plan.yielders[u].has(t) {
+            r |= u64::single(u);
         }
-        rest = transitions::without_lowest(rest);
     }
     r
 }
@@ -60,7 +56,7 @@ fn rounds_report(
         ≡ rounds_report sheet.now (has o.taken t) (suc (t_of sheet.now)) input (start_sets b) first 0 t }
 {
     let hits = hits(sheet, plan, input);
-    let mixed = plan[MIXED];
+    let mixed = plan.mixed;
     let mut z = Sets {
         modes: b.begun,
         entered: b.entered,
@@ -68,21 +64,19 @@ fn rounds_report(
         taken: 0,
     };
     let mut ts = first;
-    let mut r = 0u32;
-    while r < o.rounds {
+    for r in 0..o.rounds {
         let round = round_of(sheet, plan, ts);
         let es = round.chosen;
         let m = round.moves;
-        if transitions::has(es, t) {
+        if es.has(t) {
             let f = facts(input, z.entered, z.exited, b.begun | z.entered, z.taken);
             return Why::Taken(r + 1, cause(sheet, t, &f));
         }
-        if !transitions::has(o.taken, t) && transitions::has(ts, t) {
-            return Why::GaveWay(transitions::lowest(ahead_of(sheet, plan, ts, t)) as u32);
+        if !o.taken.has(t) && ts.has(t) {
+            return Why::GaveWay(ahead_of(sheet, plan, ts, t).lowest() as u32);
         }
         z = after_round(z, m.ends, es);
         ts = triggered(sheet, m.next & hits, m.next & mixed, z, b.begun, input);
-        r += 1;
     }
     Why::NeverTriggered
 }
@@ -103,7 +97,7 @@ pub fn reason(
     ensures { report_of result ≡ reason_by sheet.now (tick_of b.begun o) input (start_sets b) first t }
 {
     let active = b.begun | transitions::low(o.changed);
-    if !modes::has(active, source(sheet, t)) {
+    if !active.has(source(sheet, t)) {
         return Why::NeverActive;
     }
     rounds_report(sheet, plan, b, first, input, o, t)

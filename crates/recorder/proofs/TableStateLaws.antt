@@ -1,6 +1,7 @@
--- Refusal 14 of a table run: a block below B with sound readings. Block 0 has no timers, so there the state is fresh. Assumes nothing.
+-- Refusals of a table run. 15: none of a sound layout. 14: a block below B with sound readings; block 0 has no timers, so there the state
+-- is fresh. Assumes nothing.
 use mathlib.Core.Path.{◌≡◌, sym, ap, ◌∙◌}
-use mathlib.Core.Bool.{true, false, and-false, or-false}
+use mathlib.Core.Bool.{true, false, not, and-false, or-false}
 use mathlib.Core.List.{List}
 use Prim.Native.Nat.{ℕ, ◌≤◌, ◌<◌}
 use native.Mathlib.Nat.{lt_of_not-le}
@@ -11,7 +12,7 @@ use lib.ListN.{get_or}
 use borrow.Author.Tests.{ne_eqb, lt-ltb, le-ltb}
 use Rattle.sets.specs.Sets.{every}
 use Rattle.sets.proofs.Tests.{is_true, of_true, of_false, and_l, and_r}
-use Rattle.meaning.specs.Lists.{row_from}
+use Rattle.meaning.specs.Lists.{row_from, refused_if}
 use Rattle.meaning.specs.Ages.{ages_ok}
 use Rattle.meaning.specs.Run.{State, reading, is_fresh, readings_ok}
 use Rattle.meaning.specs.Table.{b_in, delay_in, mask_in, timers_in, table_ok}
@@ -21,6 +22,10 @@ use Rattle.table.proofs.LayoutFacts.{shape_of, timer_lt}
 use Rattle.run.proofs.ReadingTests.{reading_fits, readings_sound, readings_none, delays_serve}
 use Rattle.recorder.specs.Timers.{timer_delay_in}
 use Rattle.recorder.proofs.TimerLaws.{delay_at}
+
+pub no_refusal : (w : List ℕ) → table_ok w ≡ true → refused_if (not (table_ok w)) 15 ≡ 0
+unfolding refused_if
+no_refusal w h = rw h
 
 module _ (w : List ℕ) (h : T (table_ok w)) (q : State) where
   abbrev timers : ℕ

@@ -14,30 +14,6 @@ use super::timers::{delays, put_block_timers, sources, timers_from};
 use meaning::refusal::Refusal;
 use run::state::State;
 
-// Values into lent words, from a place on; the other words stay.
-fn put_words(words: &mut [u64], at: usize, values: &[u64])
-    requires { at + length values.now ≤ length words.old }
-    ensures { words.new ≡ over words.old at values.now }
-{
-    let mut i = 0;
-    while i < values.len() {
-        words[at + i] = values[i];
-        i += 1;
-    }
-}
-
-// As many words as there are values, from a place on.
-fn copy_words(words: &[u64], at: usize, values: &mut [u64])
-    requires { at + length values.old ≤ length words.now }
-    ensures { values.new ≡ take (length values.old) (drop at words.now) }
-{
-    let mut i = 0;
-    while i < values.len() {
-        values[i] = words[at + i];
-        i += 1;
-    }
-}
-
 // Notes a table of sound layout.
 pub fn put_notes(table: &[u32], notes: &mut [u64])
     requires { (table_ok table.now ≡ true) × (97 + b_in table.now ≤ length notes.old) }
@@ -45,30 +21,10 @@ pub fn put_notes(table: &[u32], notes: &mut [u64])
 {
     let delays = delays(table);
     let from = timers_from(table);
-    put_words(notes, 0, &delays);
-    put_words(notes, 64, &from);
-    notes[96] = sources(&from) as u64;
+    notes[..64].copy_from_slice(&delays);
+    notes[64..96].copy_from_slice(&from);
+    notes[96] = u64::from(sources(&from));
     put_block_timers(table, &mut notes[97..]);
-}
-
-// The delays, as noted.
-fn noted_delays(notes: &[u64]) -> [u64; 64]
-    requires { 64 ≤ length notes.now }
-    ensures { result ≡ take 64 notes.now }
-{
-    let mut r = [0u64; 64];
-    copy_words(notes, 0, &mut r);
-    r
-}
-
-// The timers of each source, as noted.
-fn noted_timers_from(notes: &[u64]) -> [u64; 32]
-    requires { 96 ≤ length notes.now }
-    ensures { result ≡ take 32 (drop 64 notes.now) }
-{
-    let mut r = [0u64; 32];
-    copy_words(notes, 64, &mut r);
-    r
 }
 
 // The table run on a table of sound layout that is noted, with 5 output words for each set: 14, then tick by tick.
@@ -79,11 +35,13 @@ pub fn run_noted(table: &[u32], notes: &[u64], state: State, inputs: &[u32], out
     ensures { ran_of result out.new
         ≡ table_run table.now (state_of state) inputs.now out.old }
 {
-    let delays = noted_delays(notes);
+    let mut delays = [0u64; 64];
+    delays.copy_from_slice(&notes[..64]);
     if !state_ok(table, &delays, state) {
-        return stops(state, Refusal::State);
+        return stops(state, Some(Refusal::State));
     }
-    let from = noted_timers_from(notes);
+    let mut from = [0u64; 32];
+    from.copy_from_slice(&notes[64..96]);
     let timed = notes[96] as u32;
     ticks_with(
         table,

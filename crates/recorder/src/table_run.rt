@@ -3,7 +3,7 @@ ghost use Rattle.std.specs.Prelude.{◌≡◌, not, ◌&&◌, true, List, ℕ, �
 ghost use Rattle.sets.specs.Sets.{has, minus, set_of};
 ghost use Rattle.rows.specs.Over.{five_of};
 ghost use Rattle.meaning.specs.Lists.{row_from};
-ghost use Rattle.meaning.specs.Refusal.{number_of};
+ghost use Rattle.meaning.specs.Refusal.{number_or_0};
 ghost use Rattle.meaning.specs.Run.{ran};
 ghost use Rattle.meaning.specs.Table.{b_in, mask_in, table_ok};
 ghost use Rattle.meaning.specs.TableRun.{table_state_ok, table_ticks, table_run};
@@ -14,14 +14,14 @@ ghost use Rattle.recorder.specs.Timers.{timer_delay_in, timers_from, BlockTimers
 ghost use Rattle.recorder.specs.Runs.{ran_of, TableBlockOf, five_in};
 
 use super::state::state_ok;
-use super::timers::{copied, delays, put_block_timers, sources, started, timers_from};
+use super::timers::{delays, put_block_timers, sources, started, timers_from};
 use meaning::refusal::Refusal;
 use rows::{Five, put_five};
 use run::ages::{age_limits, enter_by_words, note_entries};
 use run::counts::Ticks;
 use run::deadlines::{deadlines, due_by, restart, soon_after, soon_with};
 use run::state::{State, state_at};
-use sets::transitions;
+use sets::set::Set;
 use table::table_ok;
 use table::words::{block_count, event_count, offset};
 
@@ -30,7 +30,7 @@ use table::words::{block_count, event_count, offset};
 pub struct Ran {
     pub done: Ticks,
     pub state: State,
-    pub refusal: Refusal,
+    pub refusal: Option<Refusal>,
 }
 
 // A block: its number, where its words begin, its running timers.
@@ -89,7 +89,7 @@ fn five_at(table: &[u32], cell: usize) -> Five
 fn is_stale(timers: u64, due: u64, lasting: u64) -> bool
     ensures { result ≡ not (eqb (minus lasting (minus timers due)) 0) }
 {
-    transitions::minus(lasting, transitions::minus(timers, due)) != 0
+    lasting.minus(timers.minus(due)) != 0
 }
 
 // The tick stays in its block, with no timer due and no mode entered: nothing is to note.
@@ -115,7 +115,7 @@ fn ended(
     seen: u32,
     b: TableBlock,
     done: usize,
-    why: Refusal,
+    why: Option<Refusal>,
 ) -> Ran
     requires { (table_ok table.now ≡ true)
         × (b.number < b_in table.now)
@@ -127,7 +127,7 @@ fn ended(
     ensures { (words : List ℕ) →
         ran_of result words
         ≡ ended_run ends.now (limits_by limits.old out.now seen done)
-        b.number (mask_in table.now b.number) b.timers done 0 (number_of why) words }
+        b.number (mask_in table.now b.number) b.timers done 0 (number_or_0 why) words }
 {
     enter_by_words(out, limits, seen, done);
     let mask = mask_of(table, b);
@@ -161,7 +161,8 @@ pub fn ticks_with(
         ≡ ran out.old (table_ticks table.now inputs.now (state_of start)) }
 {
     let k = event_count(table);
-    let from = copied(by_source);
+    // A copy: the loop reads it beside its other arrays, and keeps no address for it.
+    let from = *by_source;
     let readings = start.readings;
     let ages = start.ages;
     let mut ends = deadlines(readings);
@@ -169,9 +170,7 @@ pub fn ticks_with(
     let mut b = block_at(table, timers, start.at);
     let mut seen = 0u32;
     let mut soon = 0u64;
-    let mut i = 0;
-    while i < inputs.len() {
-        let input = inputs[i];
+    for (i, &input) in inputs.iter().enumerate() {
         if input >> k != 0 {
             return ended(
                 table,
@@ -181,7 +180,7 @@ pub fn ticks_with(
                 seen,
                 b,
                 i,
-                Refusal::InputSet,
+                Some(Refusal::InputSet),
             );
         }
         let now = (i + 1) as u64;
@@ -194,8 +193,17 @@ pub fn ticks_with(
         } else {
             let to = block_at(table, timers, next);
             let again = to.timers & started(&from, entered & timed);
-            if is_stale(b.timers, d.set, transitions::minus(to.timers, again)) {
-                return ended(table, &ends, &mut limits, out, seen, b, i, Refusal::Layout);
+            if is_stale(b.timers, d.set, to.timers.minus(again)) {
+                return ended(
+                    table,
+                    &ends,
+                    &mut limits,
+                    out,
+                    seen,
+                    b,
+                    i,
+                    Some(Refusal::Layout),
+                );
             }
             restart(delays, &mut ends, again, now);
             soon = soon_with(again, soon);
@@ -205,15 +213,14 @@ pub fn ticks_with(
             b = to;
         }
         put_five(out, 5 * i, five_at(table, cell));
-        i += 1;
     }
-    ended(table, &ends, &mut limits, out, seen, b, i, Refusal::Nothing)
+    ended(table, &ends, &mut limits, out, seen, b, inputs.len(), None)
 }
 
 // A run that stops before any tick.
-pub fn stops(state: State, why: Refusal) -> Ran
+pub fn stops(state: State, why: Option<Refusal>) -> Ran
     ensures { (out : List ℕ) →
-        ran_of result out ≡ record { done = 0; state = state_of state; refusal = number_of why; rounds = 0; out = out } }
+        ran_of result out ≡ record { done = 0; state = state_of state; refusal = number_or_0 why; rounds = 0; out = out } }
 {
     Ran {
         done: Ticks(0),
@@ -222,8 +229,8 @@ pub fn stops(state: State, why: Refusal) -> Ran
     }
 }
 
-// Tick by tick on a table of any number of blocks, at most 4,096.
-fn ticks_of_many(
+// Tick by tick on a table of at most N blocks.
+fn ticks_sized<const N: usize>(
     table: &[u32],
     delays: &[u64; 64],
     start: State,
@@ -233,11 +240,13 @@ fn ticks_of_many(
     requires { (table_ok table.now ≡ true)
         × (delays.now ≡ row_from 0 64 (timer_delay_in table.now))
         × (table_state_ok table.now (state_of start) ≡ true)
-        × (5 * length inputs.now ≤ length out.old) }
+        × (5 * length inputs.now ≤ length out.old)
+        × (b_in table.now ≤ N)
+        × (N ≤ 4096) }
     ensures { ran_of result out.new
         ≡ ran out.old (table_ticks table.now inputs.now (state_of start)) }
 {
-    let mut timers = [0u64; 4096];
+    let mut timers = [0u64; N];
     put_block_timers(table, &mut timers);
     let from = timers_from(table);
     let timed = sources(&from);
@@ -253,17 +262,13 @@ fn ticks(table: &[u32], delays: &[u64; 64], start: State, inputs: &[u32], out: &
     ensures { ran_of result out.new
         ≡ ran out.old (table_ticks table.now inputs.now (state_of start)) }
 {
-    if inputs.len() == 0 {
-        return stops(start, Refusal::Nothing);
+    if inputs.is_empty() {
+        return stops(start, None);
     }
-    if 64 < block_count(table) {
-        return ticks_of_many(table, delays, start, inputs, out);
+    if block_count(table) <= 64 {
+        return ticks_sized::<64>(table, delays, start, inputs, out);
     }
-    let mut timers = [0u64; 64];
-    put_block_timers(table, &mut timers);
-    let from = timers_from(table);
-    let timed = sources(&from);
-    ticks_with(table, &timers, delays, &from, timed, start, inputs, out)
+    ticks_sized::<4096>(table, delays, start, inputs, out)
 }
 
 // The table run, on any table words, state, input sets and output words: 15, 14, 12, then tick by tick 13, then 15. A
@@ -272,14 +277,14 @@ pub fn run(table: &[u32], state: State, inputs: &[u32], out: &mut [u32]) -> Ran
     ensures { ran_of result out.new ≡ table_run table.now (state_of state) inputs.now out.old }
 {
     if !table_ok(table) {
-        return stops(state, Refusal::Layout);
+        return stops(state, Some(Refusal::Layout));
     }
     let delays = delays(table);
     if !state_ok(table, &delays, state) {
-        return stops(state, Refusal::State);
+        return stops(state, Some(Refusal::State));
     }
     if out.len() / 5 < inputs.len() {
-        return stops(state, Refusal::ShortOutput);
+        return stops(state, Some(Refusal::ShortOutput));
     }
     ticks(table, &delays, state, inputs, out)
 }

@@ -1,8 +1,8 @@
 // The bench program's answers to many texts on standard input, with a semicolon between them.
 #![tactic(auto)]
 
-use printout::texts::{TextEnd, answer_texts};
+use printout::texts::answer_texts;
 
 fn main() {
-    answer_texts(TextEnd::Byte(b';'));
+    answer_texts(Some(b';'));
 }

@@ -5,14 +5,24 @@ use mathlib.Core.List.{List, [], ◌∷◌, ◌++◌, append_assoc, append-nil}
 use Prim.Native.Nat.{ℕ, ◌+◌, ◌-◌, ◌≤◌, ◌<◌}
 use native.Mathlib.Omega.{arith}
 use native.Mathlib.Nat.{zero-add, add-zero, add_assoc}
-use lib.ListN.{length, set, length-replicate, replicate-append-replicate, get_or, get_or-append, take, drop, length-append, length-drop, take-append-drop, drop_of_length-le}
+use lib.ListN.{length, set, length-replicate, get_or, get_or-append, take, drop, length-append, length-drop, take-append-drop, drop_of_length-le}
 use lib.Seq.{sets, sets-eq, length-take-le, take_all, take_at, take-append-le, drop-append-add, drop-drop, take-set-le, drop-set-lt, get_or-take, get_or-drop, get_or-append-add}
 use borrow.Rule.Slice.PartMut.{put_mid}
+use Rattle.std.proofs.lemmas.List.{take_more}
 use Rattle.rows.specs.Over.{over, zeros}
 
 pub over_def : (l : List ℕ) (at : ℕ) (vs : List ℕ) → over l at vs ≡ take at l ++ vs ++ drop (at + length vs) l
 unfolding over
 over_def l at vs = refl
+
+-- a row put in the place of the part that it fits
+pub over_mid : (l : List ℕ) (at k : ℕ) (vs : List ℕ) → k ≡ length vs → put_mid at k l vs ≡ over l at vs
+unfolding over
+over_mid l at k vs e = rw (e, append_assoc, drop-drop) refl
+
+-- the part `l[at..at + n]`, as a call that it is lent to sees it
+pub part_length : (l : List ℕ) (at n : ℕ) → at + n ≤ length l → length (take (at + n - at) (drop at l)) ≡ n
+part_length l at n h = omega (arith, length-take-le (at + n - at) (drop at l) (omega (arith, length-drop at l)))
 
 -- a row of stores
 pub over_sets : (l : List ℕ) (at : ℕ) (vs : List ℕ) → at + length vs ≤ length l → sets l at vs ≡ over l at vs
@@ -86,6 +96,16 @@ module _ (l : List ℕ) (at : ℕ) (vs : List ℕ) (h : at + length vs ≤ lengt
       ap (λ (i : ℕ). get_or (take at l ++ vs ++ drop n l) i 0) e ∙ get_or-append-add (take at l ++ vs) (drop n l) (p - n) 0
       ∙ get_or-drop n l (p - n) 0 ∙ ap (λ (i : ℕ). get_or l i 0) q
 
+-- a row stored word by word: one more
+pub over_next : (l : List ℕ) (at : ℕ) (vs : List ℕ) (i x : ℕ) → at + length vs ≤ length l → i < length vs → x ≡ get_or vs i 0
+    → set (over l at (take i vs)) (at + i) x ≡ over l at (take (i + 1) vs)
+over_next l at vs i x room h e =
+    let n : length (take i vs) ≡ i = length-take-le i vs (omega arith) in
+    let r : at + length (take i vs) ≤ length l = omega arith in
+    over_sets (over l at (take i vs)) (at + i) (x ∷ []) (omega (arith, length_over l at (take i vs) r))
+    ∙ over_more l at (take i vs) r (x ∷ []) (at + i) (ap (λ (k : ℕ). at + k) (sym n))
+    ∙ ap (over l at) (rw e (sym (take_more vs i 0 h)))
+
 -- a store inside the row is lost under it
 pub over_set : (l : List ℕ) (at : ℕ) (vs : List ℕ) (i x : ℕ) → i < length vs → over (set l (at + i) x) at vs ≡ over l at vs
 unfolding over
@@ -98,23 +118,11 @@ over_same l at n h =
     let e : length (take n (drop at l)) ≡ n = length-take-le n (drop at l) (omega (arith, length-drop at l)) in
     rw (e, ← drop-drop n at l, append_assoc, take-append-drop n (drop at l)) (take-append-drop at l)
 
--- ---- a row of zeros: none, one more
+-- ---- a row of zeros
 
 pub zeros_length : (n : ℕ) → length (zeros n) ≡ n
 unfolding zeros
 zeros_length n = length-replicate n 0
-
-pub over_no_zeros : (l : List ℕ) (at : ℕ) → over l at (zeros 0) ≡ l
-unfolding zeros
-over_no_zeros l at = over_nil l at
-
-pub over_zero : (l : List ℕ) (at n : ℕ) → at + n < length l → set (over l at (zeros n)) (at + n) 0 ≡ over l at (zeros (n + 1))
-unfolding zeros
-over_zero l at n h =
-    let room : at + length (zeros n) ≤ length l = omega (arith, zeros_length n) in
-    over_sets (over l at (zeros n)) (at + n) (0 ∷ []) (omega (arith, length_over l at (zeros n) room))
-    ∙ over_more l at (zeros n) room (0 ∷ []) (at + n) (ap (λ (k : ℕ). at + k) (sym (zeros_length n)))
-    ∙ ap (over l at) (replicate-append-replicate n 1 0)
 
 -- a row put at the front of the part from `off` on
 pub over_part : (l : List ℕ) (off : ℕ) (vs : List ℕ) → off ≤ length l → take off l ++ over (drop off l) 0 vs ≡ over l off vs

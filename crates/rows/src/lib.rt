@@ -29,51 +29,57 @@ pub struct Six {
     pub five: Five,
 }
 
+// A row of words, from a place on.
+fn put_words<const N: usize>(out: &mut [u32], at: usize, words: [u32; N])
+    requires { at + N ≤ length out.old }
+    ensures { out.new ≡ over out.old at words.entry }
+{
+    // One by one: `copy_from_slice` adds instructions to the loop of a run.
+    for (i, &word) in words.iter().enumerate() {
+        out[at + i] = word;
+    }
+}
+
 pub fn put_pair(out: &mut [u32], at: usize, first: u32, second: u32)
     requires { at + 2 ≤ length out.old }
     ensures { out.new ≡ over out.old at (first ∷ second ∷ []) }
 {
-    out[at] = first;
-    out[at + 1] = second;
+    put_words(out, at, [first, second]);
 }
 
 pub fn put_three(out: &mut [u32], at: usize, w: Three)
     requires { at + 3 ≤ length out.old }
     ensures { out.new ≡ over out.old at (three_of w) }
 {
-    out[at] = w.mask;
-    out[at + 1] = w.low;
-    out[at + 2] = w.high;
+    put_words(out, at, [w.mask, w.low, w.high]);
 }
 
 pub fn put_five(out: &mut [u32], at: usize, w: Five)
     requires { at + 5 ≤ length out.old }
     ensures { out.new ≡ over out.old at (five_of w) }
 {
-    put_pair(out, at, w.entered, w.exited);
-    let rest = Three {
-        mask: w.active,
-        low: w.low,
-        high: w.high,
-    };
-    put_three(out, at + 2, rest);
+    put_words(out, at, [w.entered, w.exited, w.active, w.low, w.high]);
 }
 
 pub fn put_six(out: &mut [u32], at: usize, w: Six)
     requires { at + 6 ≤ length out.old }
     ensures { out.new ≡ over out.old at (six_of w) }
 {
-    out[at] = w.next;
-    put_five(out, at + 1, w.five);
+    let five = w.five;
+    let words = [
+        w.next,
+        five.entered,
+        five.exited,
+        five.active,
+        five.low,
+        five.high,
+    ];
+    put_words(out, at, words);
 }
 
 pub fn put_zeros(out: &mut [u8], at: usize)
     requires { at + 64 ≤ length out.old }
     ensures { out.new ≡ over out.old at (zeros 64) }
 {
-    let mut t = 0;
-    while t < 64 {
-        out[at + t] = 0;
-        t += 1;
-    }
+    out[at..at + 64].fill(0);
 }

@@ -5,10 +5,12 @@ use mathlib.Core.Logic.{◌⊎◌, inl, inr}
 use mathlib.Core.Bool.{Bool, true, false, ◌&&◌, cond}
 use Prim.Native.Nat.{ℕ, zero, suc, ◌+◌, ◌*◌, ◌^◌, ◌≤◌, ◌<◌, zero-le}
 use native.Mathlib.Nat.{le_refl, not-suc-le-zero, zero-add, eq-or-lt_of_le, le_of_suc-le-suc}
-use native.Mathlib.Numerals.{add-one}
+use mathlib.Core.List.{List, [], ◌∷◌}
+use Rattle.std.specs.List.{sum}
+use Rattle.std.proofs.lemmas.List.Sums.{sum_by-cons}
 use native.Mathlib.Omega.{arith}
 use lib.Dec.{T, eqb, eqb→eq}
-use lib.ListN.{length}
+use lib.ListN.{length, get_or}
 use borrow.Author.Tests.{eq-eqb}
 use Rattle.sets.specs.Sets.{has, size, every, every_in}
 use Rattle.sets.proofs.Tests.{of_true, and_l, and_r, and_i, bool_ext}
@@ -20,20 +22,16 @@ use Rattle.meaning.specs.Lists.{sum_to}
 
 -- ---- the numbers below n
 
-module _ (f : ℕ → ℕ) where
-  pub sum_start : 0 ≡ sum_to 0 f
-  unfolding sum_to
-  sum_start = refl
+-- the first number apart from the others
+sum_front : (n : ℕ) (f : ℕ → ℕ) → f 0 + sum_to n (λ i. f (suc i)) ≡ sum_to (suc n) f
+unfolding sum_to
+sum_front zero f = omega arith
+sum_front (suc n) f = omega (arith, sum_front n f)
 
-  pub sum_next : (n : ℕ) → sum_to n f + f n ≡ sum_to (n + 1) f
-  unfolding sum_to
-  sum_next n = rw add-one refl
-
-  -- of words
-  pub sum-le : (n : ℕ) → ((i : ℕ) → i < n → f i < 2 ^ 32) → sum_to n f ≤ n * 2 ^ 32
-  unfolding sum_to
-  sum-le zero h = zero-le
-  sum-le (suc n) h = omega (arith, sum-le n (λ i l. h i (omega arith)), h n (le_refl (suc n)))
+pub sum_list : (l : List ℕ) → sum l ≡ sum_to (length l) (λ i. get_or l i 0)
+unfolding sum_to
+sum_list [] = refl
+sum_list (x ∷ xs) = sum_by-cons (λ n. n) x xs ∙ ap (λ (n : ℕ). x + n) (sum_list xs) ∙ sum_front (length xs) (λ i. get_or (x ∷ xs) i 0)
 
 sum_same : (n : ℕ) (f g : ℕ → ℕ) → ((i : ℕ) → i < n → f i ≡ g i) → sum_to n f ≡ sum_to n g
 unfolding sum_to

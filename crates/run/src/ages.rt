@@ -7,29 +7,18 @@ ghost use Rattle.meaning.specs.Ages.{ages_ok};
 ghost use Rattle.run.specs.Entries.{ages_by, entered_at, limits_by};
 
 use super::sums::sum_of;
-use sets::modes;
+use sets::set::Set;
 
-// The tick in which an age at the start of a call reaches its limit.
-fn limit_of(age: u32) -> u64
-    ensures { result ≡ 65535 - age }
-{
-    if 65535 <= age {
-        return 0;
-    }
-    (65535 - age) as u64
-}
-
-// The same of each age.
+// The tick in which each age at the start of a call reaches its limit.
 pub fn age_limits(ages: [u32; 32]) -> [u64; 32]
     ensures { result ≡ row_from 0 32 (λ m. 65535 - get_or ages m 0) }
 {
-    let mut r = [0u64; 32];
-    let mut m = 0;
-    while m < 32 {
-        r[m] = limit_of(ages[m]);
-        m += 1;
+    // A `map` over the array costs a run of one tick half its time.
+    let mut limits = [0u64; 32];
+    for (m, &age) in ages.iter().enumerate() {
+        limits[m] = u64::from(65535u32.saturating_sub(age));
     }
-    r
+    limits
 }
 
 // An age in a tick, by the tick of its limit.
@@ -49,11 +38,8 @@ pub fn ages_at(limits: &[u64; 32], active: u32, tick: u64) -> [u32; 32]
     ensures { result ≡ ages_by limits.now active tick }
 {
     let mut r = [0u32; 32];
-    let mut rest = active;
-    while rest != 0 {
-        let m = modes::lowest(rest);
+    for m in active.members() {
         r[m] = age_at(limits[m], tick);
-        rest = modes::without_lowest(rest);
     }
     r
 }
@@ -63,11 +49,8 @@ pub fn enter(limits: &mut [u64; 32], set: u32, tick: u64)
     requires { (length limits.old ≡ 32) × (tick < 2 ^ 62) }
     ensures { limits.new ≡ entered_at set tick limits.old }
 {
-    let mut rest = set;
-    while rest != 0 {
-        let m = modes::lowest(rest);
+    for m in set.members() {
         limits[m] = tick + 65535;
-        rest = modes::without_lowest(rest);
     }
 }
 
@@ -80,13 +63,11 @@ pub fn enter_by_words(out: &[u32], limits: &mut [u64; 32], set: u32, done: usize
         return;
     }
     let mut wanted = set;
-    let mut p = done;
-    while p != 0 {
-        p -= 1;
+    for p in (0..done).rev() {
         let found = wanted & out[5 * p];
         if found != 0 {
             enter(limits, found, (p + 1) as u64);
-            wanted = modes::minus(wanted, found);
+            wanted = wanted.minus(found);
             if wanted == 0 {
                 return;
             }
@@ -112,13 +93,13 @@ pub fn note_entries(
         (entered_at (minus next (union active entered)) i (limits_by limits.old out seen i)))
         × (length limits.new ≡ 32) }
 {
-    let late = modes::minus(next, active | entered);
+    let late = next.minus(active | entered);
     if late == 0 && active != 0 {
         return seen | entered;
     }
     enter(limits, late, i as u64);
     enter(limits, entered, (i + 1) as u64);
-    modes::minus(seen, late | entered)
+    seen.minus(late | entered)
 }
 
 // Every age of an active mode is at most 65,535, and the others are 0: all ages add up to what those of the active modes do.
@@ -126,14 +107,11 @@ pub fn ages_ok(active: u32, ages: &[u32; 32]) -> bool
     ensures { result ≡ ages_ok active ages.now }
 {
     let mut sum = 0u64;
-    let mut rest = active;
-    while rest != 0 {
-        let m = modes::lowest(rest);
+    for m in active.members() {
         if 65535 < ages[m] {
             return false;
         }
-        sum += ages[m] as u64;
-        rest = modes::without_lowest(rest);
+        sum += u64::from(ages[m]);
     }
     sum == sum_of(ages)
 }

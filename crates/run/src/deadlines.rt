@@ -4,19 +4,18 @@ ghost use Rattle.sets.specs.Sets.{has, those, members, size};
 ghost use Rattle.meaning.specs.Lists.{row_from};
 ghost use Rattle.meaning.specs.TableRun.{due_number};
 
-use sets::transitions;
+use sets::set::Set;
 
 // The deadlines of readings at the start of a call.
 pub fn deadlines(readings: [u32; 64]) -> [u64; 64]
     ensures { result ≡ readings }
 {
-    let mut r = [0u64; 64];
-    let mut t = 0;
-    while t < 64 {
-        r[t] = readings[t] as u64;
-        t += 1;
+    // A `map` over the array costs a run of one tick half its time.
+    let mut ends = [0u64; 64];
+    for (t, &reading) in readings.iter().enumerate() {
+        ends[t] = u64::from(reading);
     }
-    r
+    ends
 }
 
 // The readings of the running timers after a tick; no deadline of theirs is past.
@@ -25,11 +24,8 @@ pub fn readings_at(ends: &[u64; 64], timers: u64, tick: u64) -> [u32; 64]
     ensures { result ≡ row_from 0 64 (λ t. cond (has timers t) ((get_or ends.now t 0 - tick) % 2 ^ 32) 0) }
 {
     let mut r = [0u32; 64];
-    let mut rest = timers;
-    while rest != 0 {
-        let t = transitions::lowest(rest);
+    for t in timers.members() {
         r[t] = ((ends[t] - tick) % 4294967296) as u32;
-        rest = transitions::without_lowest(rest);
     }
     r
 }
@@ -49,14 +45,11 @@ pub fn due(ends: &[u64; 64], timers: u64, tick: u64, low: usize) -> DueTimers
     let mut set = 0u64;
     let mut number = 0u64;
     let mut place = low;
-    let mut rest = timers;
-    while rest != 0 {
-        let t = transitions::lowest(rest);
+    for t in timers.members() {
         let is_due = ends[t] == tick;
-        set |= transitions::single_if(is_due, t);
-        number += transitions::single_if(is_due, place);
+        set |= u64::single_if(is_due, t);
+        number += u64::single_if(is_due, place);
         place += 1;
-        rest = transitions::without_lowest(rest);
     }
     DueTimers { set, number }
 }
@@ -77,14 +70,12 @@ pub fn due_by(ends: &[u64; 64], timers: u64, soon: u64, tick: u64, low: usize) -
 pub fn soonest(ends: &[u64; 64], timers: u64) -> u64
     ensures { (t : ℕ) → has timers t ≡ true → result ≤ get_or ends.now t 0 }
 {
-    let mut soon = 0xffff_ffff_ffff_ffffu64;
-    let mut rest = timers;
-    while rest != 0 {
-        let e = ends[transitions::lowest(rest)];
+    let mut soon = u64::MAX;
+    for t in timers.members() {
+        let e = ends[t];
         if e < soon {
             soon = e;
         }
-        rest = transitions::without_lowest(rest);
     }
     soon
 }
@@ -117,10 +108,7 @@ pub fn restart(delays: &[u64; 64], ends: &mut [u64; 64], set: u64, tick: u64)
         ≡ row_from 0 64 (λ t.
         cond (has set t) (tick + get_or delays.now t 0) (get_or ends.old t 0)) }
 {
-    let mut rest = set;
-    while rest != 0 {
-        let t = transitions::lowest(rest);
+    for t in set.members() {
         ends[t] = tick + delays[t];
-        rest = transitions::without_lowest(rest);
     }
 }

@@ -9,7 +9,7 @@ ghost use Rattle.run.specs.States.{state_of, state_by, state_words, words_of, st
 use super::ages::ages_at;
 use super::deadlines::readings_at;
 use super::sums::sum_of;
-use sets::transitions;
+use sets::set::Set;
 
 // A mode set (0: fresh), or in a table run a block number, one reading per transition, and one age per mode.
 #[repr(C)]
@@ -55,18 +55,6 @@ pub fn state_at(
     State { at, readings, ages }
 }
 
-// As many words as there are values, from a place on.
-fn copy_words(words: &[u32], at: usize, values: &mut [u32])
-    requires { at + length values.old ≤ length words.now }
-    ensures { values.new ≡ take (length values.old) (drop at words.now) }
-{
-    let mut i = 0;
-    while i < values.len() {
-        values[i] = words[at + i];
-        i += 1;
-    }
-}
-
 // The state that lent words hold.
 pub fn from_words(words: &[u32]) -> State
     requires { state_words ≤ length words.now }
@@ -74,24 +62,12 @@ pub fn from_words(words: &[u32]) -> State
 {
     let mut readings = [0u32; 64];
     let mut ages = [0u32; 32];
-    copy_words(words, 1, &mut readings);
-    copy_words(words, 65, &mut ages);
+    readings.copy_from_slice(&words[1..65]);
+    ages.copy_from_slice(&words[65..STATE_WORDS]);
     State {
         at: words[0],
         readings,
         ages,
-    }
-}
-
-// Values into lent words, from a place on; the other words stay.
-fn put_words(words: &mut [u32], at: usize, values: &[u32])
-    requires { at + length values.now ≤ length words.old }
-    ensures { words.new ≡ over words.old at values.now }
-{
-    let mut i = 0;
-    while i < values.len() {
-        words[at + i] = values[i];
-        i += 1;
     }
 }
 
@@ -100,11 +76,9 @@ pub fn put_state(words: &mut [u32], state: State)
     requires { state_words ≤ length words.old }
     ensures { words.new ≡ overwritten (words_of (state_of state)) words.old }
 {
-    let readings = state.readings;
-    let ages = state.ages;
     words[0] = state.at;
-    put_words(words, 1, &readings);
-    put_words(words, 65, &ages);
+    words[1..65].copy_from_slice(&state.readings);
+    words[65..STATE_WORDS].copy_from_slice(&state.ages);
 }
 
 // A running reading is 1 to its delay; it is a word.
@@ -119,14 +93,11 @@ pub fn readings_ok(delays: &[u64; 64], timers: u64, readings: &[u32; 64]) -> boo
     ensures { result ≡ readings_ok timers (λ t. get_or delays.now t 0) readings.now }
 {
     let mut sum = 0u64;
-    let mut rest = timers;
-    while rest != 0 {
-        let t = transitions::lowest(rest);
+    for t in timers.members() {
         if !running_ok(delays[t], readings[t]) {
             return false;
         }
-        sum += readings[t] as u64;
-        rest = transitions::without_lowest(rest);
+        sum += u64::from(readings[t]);
     }
     sum == sum_of(readings)
 }

@@ -7,11 +7,5 @@ pub fn sum_of(values: &[u32]) -> u64
     requires { length values.now ≤ 64 }
     ensures { result ≡ sum_to (length values.now) (λ i. get_or values.now i 0) }
 {
-    let mut sum = 0u64;
-    let mut i = 0;
-    while i < values.len() {
-        sum += values[i] as u64;
-        i += 1;
-    }
-    sum
+    values.iter().map(|&x| u64::from(x)).sum()
 }

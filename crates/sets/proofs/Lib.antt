@@ -8,3 +8,5 @@ pub mod Loops
 pub mod Widths
 pub mod Highest
 pub mod Unions
+pub mod Ranges
+pub mod MemberChains

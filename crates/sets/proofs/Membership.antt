@@ -11,6 +11,7 @@ use lib.Dec.{eqb, ltb, eqb-zero-suc, eqb-suc-zero, eqb-suc-suc, leb-zero, leb-su
 use lib.Arith.{lt-one, digits_lt}
 use lib.Pow.{pow_pos, pow-add, pow_mono, pow-lt, ones_lt, ones_split, high, split, shr-shr}
 use lib.Bits.{bit_and, bit_or, and_step, or_step, and_le_l, or_lt, or_shifted_r, and_mask, block_half, block_odd}
+use mir.Val.{bool_byte}
 use borrow.Author.Tests.{lt-ltb, le-ltb}
 use Rattle.sets.specs.Sets.{has, union, meet, minus, single, below, digit, set_of, those}
 use Rattle.sets.proofs.Tests.{below_or_not}
@@ -180,6 +181,12 @@ single-lt w m h = pow-lt h
 -- `1 << m` at width w
 pub one_shl : (w m : ℕ) → m < w → 1 * 2 ^ m % 2 ^ w ≡ single m
 one_shl w m h = ap (λ (x : ℕ). x % 2 ^ w) (one-mul (2 ^ m)) ∙ mod-eq_of_lt (single-lt w m h)
+
+-- a truth value moved to place m
+pub placed : (w : ℕ) (b : Bool) (m : ℕ) → m < w → bool_byte b * 2 ^ m % 2 ^ w ≡ digit b * 2 ^ m
+unfolding digit
+placed w true m h = one_shl w m h ∙ sym (one-mul (2 ^ m))
+placed w false m h = ap (λ (x : ℕ). x % 2 ^ w) (zero-mul (2 ^ m)) ∙ mod-eq_of_lt (pow_pos w) ∙ sym (zero-mul (2 ^ m))
 
 -- `(1 << a) << k`
 pub shl_shl : (w a k : ℕ) → a + k < w → 1 * 2 ^ a % 2 ^ w * 2 ^ k % 2 ^ w ≡ 2 ^ (a + k)

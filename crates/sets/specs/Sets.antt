@@ -1,6 +1,6 @@
 -- Sets of small numbers as words: bit i of the number s says whether i is in the set s. A width w bounds the numbers that
 -- are looked at; no definition fixes it. Assumes nothing.
-use Rattle.std.specs.Prelude.{ℕ, zero, suc, ◌+◌, ◌-◌, ◌*◌, ◌/◌, ◌%◌, ◌^◌, Bool, true, false, not, ◌&&◌, ◌||◌, cond, List, [], ◌∷◌, eqb, length, get_or}
+use Rattle.std.specs.Prelude.{◌≡◌, ◌<◌, Option, MatchOption, ℕ, zero, suc, ◌+◌, ◌-◌, ◌*◌, ◌/◌, ◌%◌, ◌^◌, Bool, true, false, not, ◌&&◌, ◌||◌, cond, List, [], ◌∷◌, eqb, length, get_or}
 use Rattle.std.specs.Int.Bits.{bit_and, bit_or}
 
 -- i is in s
@@ -101,3 +101,7 @@ some_in w s p = some w (λ i. has s i && p i)
 unfoldable pub every_in : ℕ → ℕ → (ℕ → Bool) → Bool
 unfolding every has
 every_in w s p = every w (λ i. not (has s i) || p i)
+
+-- the next of the members of s below w, lowest first, and the set t of those that are left: none where s is empty
+abbrev pub NextMember : ℕ → ℕ → Option ℕ → ℕ → Type 0
+NextMember w s none-or-m t = MatchOption none-or-m ((s ≡ 0) × (t ≡ 0)) (λ m. (0 < s) × (m ≡ lowest w s) × (t ≡ minus s (single m)))

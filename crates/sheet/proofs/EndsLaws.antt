@@ -4,6 +4,7 @@ use mathlib.Core.Bool.{Bool, ◌&&◌, ◌||◌, or_comm}
 use mathlib.Core.List.{List}
 use Prim.Native.Nat.{ℕ, ◌+◌, ◌<◌}
 use native.Mathlib.Numerals.{add-one}
+use native.Mathlib.Omega.{arith}
 use lib.Dec.{T, eqb, ltb→lt}
 use lib.ListN.{length, get_or, set}
 use borrow.Author.Tests.{eq-eqb, ne_eqb}
@@ -13,8 +14,9 @@ use Rattle.sets.proofs.Membership.{has_none, has-union, has-single}
 use Rattle.sets.proofs.Facts.{every_e}
 use Rattle.sets.proofs.Loops.{set_word_has}
 use Rattle.meaning.specs.Sheet.{n_of, t_of, source, target}
-use Rattle.meaning.specs.Check.{end_ok, ends_ok, shares_ends}
+use Rattle.meaning.specs.Check.{head_ok, pairs_ok, end_ok, ends_ok, shares_ends}
 use Rattle.meaning.proofs.ListLaws.{all_of_e}
+use Rattle.sheet.proofs.SheetTestLaws.{head_of}
 
 -- the ends of a transition are modes
 pub ends_modes : (s : List ℕ) → T (ends_ok s) → (t : ℕ) → t < t_of s → (source s t < n_of s) × (target s t < n_of s)
@@ -22,6 +24,12 @@ unfolding ends_ok end_ok
 ends_modes s h t l =
     let r = all_of_e _ (every_e (t_of s) (end_ok s) h t l) in
     (ltb→lt (source s t) (n_of s) r.0, ltb→lt (target s t) (n_of s) r.1.0)
+
+pub source_small : (s : List ℕ) {n t a : ℕ} → T (head_ok s) × T (pairs_ok s) × T (ends_ok s) → n ≡ t_of s → t < n → a ≡ source s t → a < 32
+source_small s {n} {t} r c l e = omega (arith, e, (ends_modes s r.2 t (omega arith)).0, head_of s r.0)
+
+pub target_small : (s : List ℕ) {n t b : ℕ} → T (head_ok s) × T (pairs_ok s) × T (ends_ok s) → n ≡ t_of s → t < n → b ≡ target s t → b < 32
+target_small s {n} {t} r c l e = omega (arith, e, (ends_modes s r.2 t (omega arith)).1, head_of s r.0)
 
 module _ (s : List ℕ) where
   abbrev goes : ℕ → ℕ → ℕ → Bool

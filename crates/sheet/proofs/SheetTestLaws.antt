@@ -2,11 +2,10 @@
 -- where its first parts have. Assumes nothing.
 use mathlib.Core.Path.{◌≡◌, refl, sym, ap}
 use mathlib.Core.Logic.{⊎_elim}
-use mathlib.Core.Bool.{Bool, false, not, ◌&&◌, and_assoc, and-true}
+use mathlib.Core.Bool.{Bool, false, ◌&&◌, and_assoc, and-true}
 use mathlib.Core.List.{List}
 use Prim.Native.Nat.{ℕ, zero, suc, ◌+◌, ◌*◌, ◌/◌, ◌%◌, ◌^◌, ◌-◌, ◌≤◌, ◌<◌}
 use native.Mathlib.Nat.{le_refl, le_trans, le_of_eq, eq-or-lt_of_le, div-eq_of_lt, div-lt_iff_lt-mul}
-use native.Mathlib.Numerals.{add-one}
 use native.Mathlib.Omega.{arith}
 use lib.Dec.{T, eqb, leb, ltb, eqb→eq, ltb→lt, leb→le, lt→ltb}
 use lib.Pow.{pow_pos}
@@ -16,10 +15,10 @@ use Rattle.sets.specs.Sets.{every}
 use Rattle.sets.proofs.Tests.{of_true, and_l, and_r, bool_ext}
 use Rattle.sets.proofs.Facts.{every_e}
 use Rattle.meaning.specs.Lists.{all_of}
-use Rattle.meaning.specs.Sheet.{n_of, k_of, t_of, kind, offset, record_length, end_before, source, target, term_count, term_kind, term_value, contains, meeting}
+use Rattle.meaning.specs.Sheet.{n_of, k_of, t_of, kind, parent, offset, record_length, end_before, source, target, term_count, term_kind, term_value, contains, meeting}
 use Rattle.meaning.specs.Check.{head_ok, mode_ok, modes_ok, pair_ok, pairs_ok, end_ok, kind_ok, term_ok}
 use Rattle.meaning.proofs.ListLaws.{all_of_e, steps_le}
-use Rattle.meaning.proofs.SheetLaws.{Rooted, rooted, kind_none}
+use Rattle.meaning.proofs.SheetLaws.{Rooted, rooted, parent_n, kind_none}
 use Rattle.sheet.specs.Reading.{Record, Term, Tree}
 
 -- ---- the head
@@ -52,6 +51,10 @@ head_ok_is s l n m k t =
 pub rooted_tree : {s : List ℕ} → Tree s → Rooted s
 unfolding modes_ok
 rooted_tree {s} r = rooted s (head_of s r.head).n_pos (every_e (n_of s) (mode_ok s) r.modes)
+
+-- the parent of a mode is a mode
+pub parent_small : {s : List ℕ} {n m p : ℕ} → Tree s → n ≡ n_of s → m < n → p ≡ parent s m → p < 32
+parent_small {s} {n} {m} {p} r c l e = omega (arith, e, parent_n s (rooted_tree r) m (omega arith), head_of s r.head)
 
 -- ---- the pairs: the records follow one another, so that each lies within the sheet
 
@@ -126,11 +129,6 @@ shifted_none v n =
     let k : v < 1 * 2 ^ n = (div-lt_iff_lt-mul (pow_pos n)).0 (omega arith) in
     lt→ltb v (2 ^ n) (omega arith))
     (λ h. of_true (eq-eqb (v / 2 ^ n) 0 (div-eq_of_lt (ltb→lt v (2 ^ n) h))))
-
--- an "or", its tests one after the other
-pub or_ok_is : (s : List ℕ) (t j v : ℕ) (f g r : Bool) → f ≡ (eqb v 0 && ltb 0 j) → g ≡ (f && ltb (j + 1) (term_count s t)) → r ≡ (g && not (eqb (term_kind s t (j + 1)) 7))
-    → r ≡ (eqb v 0 && ltb 0 j && ltb (suc j) (term_count s t) && not (eqb (term_kind s t (suc j)) 7))
-or_ok_is s t j v f g r hf hg hr = rw (← add-one j, hr, hg, hf)
 
 -- a term's condition, where several kinds have it
 module _ (s : List ℕ) (t j : ℕ) where

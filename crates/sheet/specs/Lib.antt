@@ -1,2 +1,4 @@
 pub mod Reading
 pub mod Masks
+pub mod Within
+pub mod Kinds

@@ -6,7 +6,7 @@ ghost use Rattle.sheet.specs.Reading.{Tree, Record};
 
 use super::hierarchy::{containers, contains, is_serial, meeting};
 use super::words::{mode_count, source, target, transition_count};
-use sets::modes;
+use sets::set::Set;
 
 fn end_ok(sheet: &[u32], containers: &[u32; 32], t: usize) -> bool
     requires { Tree sheet.now × Record sheet.now t × Containers sheet.now containers.now }
@@ -29,16 +29,8 @@ pub fn ends_ok(sheet: &[u32]) -> bool
     requires { Tree sheet.now × T (pairs_ok sheet.now) }
     ensures { result ≡ ends_ok sheet.now }
 {
-    let count = transition_count(sheet);
     let containers = containers(sheet);
-    let mut t = 0;
-    while t < count {
-        if !end_ok(sheet, &containers, t) {
-            return false;
-        }
-        t += 1;
-    }
-    true
+    (0..transition_count(sheet)).all(|t| end_ok(sheet, &containers, t))
 }
 
 // No two transitions share both ends: the targets met so far are kept for each source.
@@ -46,17 +38,14 @@ pub fn distinct_ok(sheet: &[u32]) -> bool
     requires { T (head_ok sheet.now) × T (pairs_ok sheet.now) × T (ends_ok sheet.now) }
     ensures { result ≡ distinct_ok sheet.now }
 {
-    let count = transition_count(sheet);
     let mut targets = [0u32; 32];
-    let mut t = 0;
-    while t < count {
+    for t in 0..transition_count(sheet) {
         let a = source(sheet, t);
         let b = target(sheet, t);
-        if modes::has(targets[a], b) {
+        if targets[a].has(b) {
             return false;
         }
-        targets[a] |= modes::single(b);
-        t += 1;
+        targets[a] |= u32::single(b);
     }
     true
 }

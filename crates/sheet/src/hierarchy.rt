@@ -5,23 +5,21 @@ ghost use Rattle.meaning.specs.Check.{head_ok};
 ghost use Rattle.sheet.specs.Masks.{Children, Containers};
 ghost use Rattle.sheet.specs.Reading.{Row, Record, Tree};
 
+use super::kinds::ModeKind;
 use super::words::{kind, mode_count, parent, source, target};
-use sets::modes;
+use sets::set::Set;
 
 // The children of each mode: each mode is added to its parent's, if that can be a mode.
 pub fn children(sheet: &[u32]) -> [u32; 32]
     requires { T (head_ok sheet.now) }
     ensures { Children sheet.now result }
 {
-    let n = mode_count(sheet);
     let mut r = [0u32; 32];
-    let mut m = 1;
-    while m < n {
+    for m in 1..mode_count(sheet) {
         let p = parent(sheet, m);
         if p < 32 {
-            r[p] |= modes::single(m);
+            r[p] |= u32::single(m);
         }
-        m += 1;
     }
     r
 }
@@ -31,13 +29,10 @@ pub fn containers(sheet: &[u32]) -> [u32; 32]
     requires { Tree sheet.now }
     ensures { Containers sheet.now result }
 {
-    let n = mode_count(sheet);
     let mut r = [1u32; 32];
-    let mut m = 1;
-    while m < n {
+    for m in 1..mode_count(sheet) {
         let p = parent(sheet, m);
-        r[m] = r[p] | modes::single(m);
-        m += 1;
+        r[m] = r[p] | u32::single(m);
     }
     r
 }
@@ -47,7 +42,7 @@ pub fn contains(sheet: &[u32], containers: &[u32; 32], a: usize, m: usize) -> bo
     requires { Tree sheet.now × Containers sheet.now containers.now × (a < n_of sheet.now) × (m < n_of sheet.now) }
     ensures { result ≡ contains sheet.now a m }
 {
-    modes::has(containers[m], a)
+    containers[m].has(a)
 }
 
 // A transition's own meeting mode: of the modes that contain both ends, the highest number is the innermost.
@@ -61,12 +56,12 @@ pub fn meeting(sheet: &[u32], containers: &[u32; 32], t: usize) -> usize
         × (contains sheet.now (target sheet.now t) (source sheet.now t) ≡ false) }
     ensures { (result ≡ meeting sheet.now t) × (result < n_of sheet.now) }
 {
-    modes::highest(containers[source(sheet, t)] & containers[target(sheet, t)])
+    (containers[source(sheet, t)] & containers[target(sheet, t)]).highest()
 }
 
 pub fn is_serial(sheet: &[u32], m: usize) -> bool
     requires { Row sheet.now m }
     ensures { result ≡ eqb (kind sheet.now m) 1 }
 {
-    kind(sheet, m) == 1
+    kind(sheet, m) == ModeKind::Serial as u32
 }

@@ -3,10 +3,11 @@
 
 ghost use Rattle.std.specs.Prelude.{◌≡◌};
 ghost use Rattle.meaning.specs.Check.{head_ok, sheet_refusal};
-ghost use Rattle.meaning.specs.Refusal.{number_of};
+ghost use Rattle.meaning.specs.Refusal.{err_or_0};
 
 mod ends;
 pub mod hierarchy;
+pub mod kinds;
 mod modes;
 mod pairs;
 mod terms;
@@ -32,26 +33,26 @@ fn head_ok(sheet: &[u32]) -> bool
 }
 
 // Sheet check: the lowest of 1 to 6 that applies to a list of words, of any length.
-pub fn check(sheet: &[u32]) -> Refusal
-    ensures { number_of result ≡ sheet_refusal sheet.now }
+pub fn check(sheet: &[u32]) -> Result<(), Refusal>
+    ensures { err_or_0 result ≡ sheet_refusal sheet.now }
 {
     if !head_ok(sheet) {
-        return Refusal::Head;
+        return Err(Refusal::Head);
     }
     if !modes::modes_ok(sheet) {
-        return Refusal::ModeRow;
+        return Err(Refusal::ModeRow);
     }
     if !pairs::pairs_ok(sheet) {
-        return Refusal::Pair;
+        return Err(Refusal::Pair);
     }
     if !ends::ends_ok(sheet) {
-        return Refusal::Ends;
+        return Err(Refusal::Ends);
     }
     if !terms::terms_ok(sheet) {
-        return Refusal::Term;
+        return Err(Refusal::Term);
     }
     if !ends::distinct_ok(sheet) {
-        return Refusal::SharedEnds;
+        return Err(Refusal::SharedEnds);
     }
-    Refusal::Nothing
+    Ok(())
 }

@@ -6,7 +6,8 @@ ghost use Rattle.meaning.specs.Check.{head_ok, mode_ok, modes_ok};
 ghost use Rattle.sheet.specs.Masks.{Children};
 ghost use Rattle.sheet.specs.Reading.{Row};
 
-use super::hierarchy::children;
+use super::hierarchy::{children, is_serial};
+use super::kinds::ModeKind;
 use super::words::{first, is_child, kind, mode_count, parent};
 
 // Some mode is a child of mode m.
@@ -29,7 +30,7 @@ fn parent_ok(sheet: &[u32], m: usize) -> bool
     if m == 0 {
         return p == 0;
     }
-    p < m && kind(sheet, p) != 0
+    p < m && kind(sheet, p) != ModeKind::Atomic as u32
 }
 
 // The first mode of mode m: of a serial mode one of its children, else 0.
@@ -41,7 +42,7 @@ fn first_ok(sheet: &[u32], m: usize) -> bool
         (eqb (first sheet.now m) 0) }
 {
     let c = first(sheet, m);
-    if kind(sheet, m) == 1 {
+    if is_serial(sheet, m) {
         return c < mode_count(sheet) && is_child(sheet, m, c);
     }
     c == 0
@@ -51,11 +52,16 @@ fn mode_ok(sheet: &[u32], children: &[u32; 32], m: usize) -> bool
     requires { Row sheet.now m × Children sheet.now children.now }
     ensures { result ≡ mode_ok sheet.now m }
 {
-    let k = kind(sheet, m);
-    if 2 < k || !parent_ok(sheet, m) || !first_ok(sheet, m) {
+    let Ok(kind) = ModeKind::try_from(kind(sheet, m)) else {
+        return false;
+    };
+    if !parent_ok(sheet, m) || !first_ok(sheet, m) {
         return false;
     }
-    k == 0 || has_child(sheet, children, m)
+    match kind {
+        ModeKind::Atomic => true,
+        ModeKind::Serial | ModeKind::Parallel => has_child(sheet, children, m),
+    }
 }
 
 // Every mode row is sound.
@@ -63,14 +69,6 @@ pub fn modes_ok(sheet: &[u32]) -> bool
     requires { T (head_ok sheet.now) }
     ensures { result ≡ modes_ok sheet.now }
 {
-    let n = mode_count(sheet);
     let children = children(sheet);
-    let mut m = 0;
-    while m < n {
-        if !mode_ok(sheet, &children, m) {
-            return false;
-        }
-        m += 1;
-    }
-    true
+    (0..mode_count(sheet)).all(|m| mode_ok(sheet, &children, m))
 }

@@ -31,12 +31,5 @@ pub fn pairs_ok(sheet: &[u32]) -> bool
     ensures { result ≡ pairs_ok sheet.now }
 {
     let count = transition_count(sheet);
-    let mut t = 0;
-    while t < count {
-        if !pair_ok(sheet, t) {
-            return false;
-        }
-        t += 1;
-    }
-    end_before(sheet, count) == sheet.len()
+    (0..count).all(|t| pair_ok(sheet, t)) && end_before(sheet, count) == sheet.len()
 }

@@ -5,6 +5,7 @@ ghost use Rattle.meaning.specs.Sheet.{term_count, term_kind};
 ghost use Rattle.meaning.specs.Check.{head_ok, pairs_ok, term_ok, terms_ok};
 ghost use Rattle.sheet.specs.Reading.{Record, Term};
 
+use super::kinds::TermKind;
 use super::words::{
     event_count, mode_count, term_count, term_kind, term_value, transition_count, wide,
 };
@@ -24,7 +25,10 @@ fn or_ok(sheet: &[u32], t: usize, j: usize, v: u32) -> bool
         && ltb (suc j) (term_count sheet.now t)
         && not (eqb (term_kind sheet.now t (suc j)) 7)) }
 {
-    v == 0 && 0 < j && j + 1 < term_count(sheet, t) && term_kind(sheet, t, j + 1) != 7
+    v == 0
+        && 0 < j
+        && j + 1 < term_count(sheet, t)
+        && term_kind(sheet, t, j + 1) != TermKind::Or as u32
 }
 
 fn term_ok(sheet: &[u32], t: usize, j: usize) -> bool
@@ -32,15 +36,16 @@ fn term_ok(sheet: &[u32], t: usize, j: usize) -> bool
     ensures { result ≡ term_ok sheet.now t j }
 {
     let v = term_value(sheet, t, j);
-    let kind = term_kind(sheet, t, j);
+    let Ok(kind) = TermKind::try_from(term_kind(sheet, t, j)) else {
+        return false;
+    };
     match kind {
-        0 => term_count(sheet, t) == 1 && v <= 65535,
-        1 | 2 => v < event_count(sheet),
-        3 => mask_ok(mode_count(sheet), v),
-        4 | 5 => wide(v) < mode_count(sheet),
-        6 => wide(v) < transition_count(sheet),
-        7 => or_ok(sheet, t, j, v),
-        _ => false,
+        TermKind::Delay => term_count(sheet, t) == 1 && v <= 65535,
+        TermKind::Present | TermKind::Absent => v < event_count(sheet),
+        TermKind::Active => mask_ok(mode_count(sheet), v),
+        TermKind::Entered | TermKind::Exited => wide(v) < mode_count(sheet),
+        TermKind::Taken => wide(v) < transition_count(sheet),
+        TermKind::Or => or_ok(sheet, t, j, v),
     }
 }
 
@@ -48,15 +53,7 @@ fn record_ok(sheet: &[u32], t: usize) -> bool
     requires { Record sheet.now t }
     ensures { result ≡ every (term_count sheet.now t) (term_ok sheet.now t) }
 {
-    let count = term_count(sheet, t);
-    let mut j = 0;
-    while j < count {
-        if !term_ok(sheet, t, j) {
-            return false;
-        }
-        j += 1;
-    }
-    true
+    (0..term_count(sheet, t)).all(|j| term_ok(sheet, t, j))
 }
 
 // Every term is sound.
@@ -64,13 +61,5 @@ pub fn terms_ok(sheet: &[u32]) -> bool
     requires { T (head_ok sheet.now) × T (pairs_ok sheet.now) }
     ensures { result ≡ terms_ok sheet.now }
 {
-    let count = transition_count(sheet);
-    let mut t = 0;
-    while t < count {
-        if !record_ok(sheet, t) {
-            return false;
-        }
-        t += 1;
-    }
-    true
+    (0..transition_count(sheet)).all(|t| record_ok(sheet, t))
 }

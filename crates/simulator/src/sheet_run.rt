@@ -3,7 +3,7 @@ ghost use Rattle.std.specs.Prelude.{◌≡◌, ◌⊎◌, true, List, [], ◌∷
 ghost use Rattle.sets.specs.Sets.{has, meet};
 ghost use Rattle.rows.specs.Over.{over, zeros, five_of};
 ghost use Rattle.meaning.specs.Lists.{row_from};
-ghost use Rattle.meaning.specs.Refusal.{number_of};
+ghost use Rattle.meaning.specs.Refusal.{number_of, number_or_0};
 ghost use Rattle.meaning.specs.Reaction.{running};
 ghost use Rattle.meaning.specs.Run.{ran};
 ghost use Rattle.meaning.specs.Sheet.{k_of, t_of};
@@ -19,17 +19,18 @@ ghost use Rattle.run.specs.Runs.{ended_run};
 ghost use Rattle.simulator.specs.Runs.{ran_of};
 
 use super::state::state_ok;
-use meaning::refusal::{Refusal, number};
+use meaning::refusal::Refusal;
 use planner::put_plan;
 use reaction::alternatives::put_numbers;
-use reaction::plan::{EARLY, Plan, SIZE, TIMERS, from_set, timer_delays};
+use reaction::plan::{Plan, blank, from_set, timer_delays};
 use reaction::tick::{Start, Ticked, first_triggered, five_words, rounds, start_of};
 use rows::{Five, put_five, put_zeros};
 use run::ages::{age_limits, enter_by_words, note_entries};
 use run::counts::{Rounds, Ticks, with_rounds};
 use run::deadlines::{deadlines, due_by, restart, soon_after};
 use run::state::{State, state_at};
-use sets::{modes, transitions};
+use sets::set::Set;
+use sets::transitions;
 use sheet::words::event_count;
 
 // What a sheet run returns: ticks done, their total of rounds, the state after them, the refusal.
@@ -38,7 +39,7 @@ pub struct Ran {
     pub done: Ticks,
     pub rounds: Rounds,
     pub state: State,
-    pub refusal: Refusal,
+    pub refusal: Option<Refusal>,
 }
 
 // A run that ends after some ticks, in the mode set x with these timers running; no deadline of theirs is past. The modes of `seen`
@@ -52,7 +53,7 @@ fn ended(
     timers: u64,
     done: usize,
     total: Rounds,
-    why: Refusal,
+    why: Option<Refusal>,
 ) -> Ran
     requires { ((t : ℕ) → has timers t ≡ true → done ≤ get_or ends.now t 0)
         × ((m : ℕ) → has x m ≡ true → get_or (limits_by limits.old out.now seen done) m 0 ≤ done + 65535)
@@ -61,7 +62,7 @@ fn ended(
     ensures { ((words : List ℕ) →
         ran_of result words
         ≡ ended_run ends.now (limits_by limits.old out.now seen done)
-        x x timers done (total_of total) (number_of why) words)
+        x x timers done (total_of total) (number_or_0 why) words)
         × (result.rounds.1 ≡ total.1) }
 {
     enter_by_words(out, limits, seen, done);
@@ -88,7 +89,7 @@ fn start_from(sheet: &[u32], plan: &Plan, first: Start, x: u32, live: u64) -> St
         begun: x,
         entered: 0,
         live,
-        unsure: live & plan[EARLY],
+        unsure: live & plan.early,
     }
 }
 
@@ -159,11 +160,11 @@ fn left_by(sheet: &[u32], plan: &Plan, x: u32, live: u64, o: Ticked) -> Left
 {
     let entered = transitions::low(o.changed);
     let gained = from_set(sheet, plan, entered);
-    let lost = from_set(sheet, plan, modes::minus(x | entered, o.modes));
-    let now = transitions::minus(live | gained, lost);
+    let lost = from_set(sheet, plan, (x | entered).minus(o.modes));
+    let now = (live | gained).minus(lost);
     Left {
         live: now,
-        starts: gained & (now & plan[TIMERS]),
+        starts: gained & (now & plan.timers),
     }
 }
 
@@ -187,21 +188,17 @@ fn ticks(
         (ran out.old (sheet_ticks sheet.now inputs.now (state_of start))))
         × (result.rounds.1 < 2 ^ 32) }
 {
-    let timers = plan[TIMERS];
+    let timers = plan.timers;
     let k = event_count(sheet);
-    let readings = start.readings;
-    let ages = start.ages;
-    let mut ends = deadlines(readings);
-    let mut limits = age_limits(ages);
+    let mut ends = deadlines(start.readings);
+    let mut limits = age_limits(start.ages);
     let mut seen = 0u32;
     let mut x = start.at;
     let mut live = from_set(sheet, plan, x);
     let power_on = start_of(sheet, plan, 0);
     let mut soon = 0u64;
     let mut total = Rounds(0, 0);
-    let mut i = 0;
-    while i < inputs.len() {
-        let input = inputs[i];
+    for (i, &input) in inputs.iter().enumerate() {
         let running = live & timers;
         if input >> k != 0 {
             return ended(
@@ -213,21 +210,32 @@ fn ticks(
                 running,
                 i,
                 total,
-                Refusal::InputSet,
+                Some(Refusal::InputSet),
             );
         }
         let now = i + 1;
         let d = due_by(&ends, running, soon, now as u64, 0);
         let from = start_from(sheet, plan, power_on, x, live);
         let first = first_triggered(sheet, plan, from, d.set, input);
-        if first == 0 && x != 0 {
+        // The first tick enters modes.
+        let later = x != 0;
+        if first == 0 && later {
             put_quiet(out, numbers, i, x);
             soon = soon_after(&ends, running, soon, now as u64);
         } else {
             let o = rounds(sheet, plan, from.begun, from.entered, first, input);
-            let why = o.refusal;
-            if number(why) != 0 {
-                return ended(&ends, &mut limits, out, seen, x, running, i, total, why);
+            if o.refusal.is_some() {
+                return ended(
+                    &ends,
+                    &mut limits,
+                    out,
+                    seen,
+                    x,
+                    running,
+                    i,
+                    total,
+                    o.refusal,
+                );
             }
             let left = left_by(sheet, plan, x, live, o);
             restart(delays, &mut ends, left.starts, now as u64);
@@ -239,7 +247,6 @@ fn ticks(
             live = left.live;
             soon = 0;
         }
-        i = now;
     }
     ended(
         &ends,
@@ -248,9 +255,9 @@ fn ticks(
         seen,
         x,
         live & timers,
-        i,
+        inputs.len(),
         total,
-        Refusal::Nothing,
+        None,
     )
 }
 
@@ -264,7 +271,7 @@ fn stops(state: State, why: Refusal) -> Ran
         done: Ticks(0),
         rounds: Rounds(0, 0),
         state,
-        refusal: why,
+        refusal: Some(why),
     }
 }
 
@@ -277,11 +284,10 @@ pub fn run(sheet: &[u32], state: State, inputs: &[u32], out: &mut [u32], numbers
         × (total_of result.rounds ≤ t_of sheet.now * result.done.0)
         × (result.rounds.1 < 2 ^ 32) }
 {
-    let why = sheet::check(sheet);
-    if number(why) != 0 {
+    if let Err(why) = sheet::check(sheet) {
         return stops(state, why);
     }
-    let mut plan = [0u64; SIZE];
+    let mut plan = blank();
     put_plan(sheet, &mut plan);
     let delays = timer_delays(sheet, &plan);
     if !state_ok(sheet, &plan, &delays, state) {

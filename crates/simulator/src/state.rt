@@ -14,7 +14,7 @@ use hierarchy::consistent::is_consistent;
 use reaction::plan::{Plan, running};
 use run::ages::ages_ok;
 use run::state::{State, readings_ok};
-use sets::transitions;
+use sets::set::Set;
 use sheet::words::source;
 
 // Fresh, or consistent with sound readings.
@@ -51,13 +51,10 @@ fn sums_ok(
         ≡ sums_ok timers (source sheet.now) (λ t. get_or delays.now t 0) (reading readings.now)
         ages.now }
 {
-    let mut rest = timers;
-    while rest != 0 {
-        let t = transitions::lowest(rest);
+    for t in timers.members() {
         if !sum_ok(readings[t], ages[source(sheet, t)], delays[t]) {
             return false;
         }
-        rest = transitions::without_lowest(rest);
     }
     true
 }

@@ -4,13 +4,13 @@ ghost use Rattle.meaning.specs.Sheet.{k_of, t_of};
 ghost use Rattle.meaning.specs.SheetRun.{state_ok};
 ghost use Rattle.meaning.specs.Why.{why};
 ghost use Rattle.reaction.specs.Plan.{Planned};
-ghost use Rattle.reaction.specs.Reasons.{report_of};
+ghost use Rattle.reaction.specs.Reasons.{answer_of};
 ghost use Rattle.run.specs.States.{state_of};
 
 use super::state::state_ok;
-use meaning::refusal::{Refusal, number};
+use meaning::refusal::Refusal;
 use planner::put_plan;
-use reaction::plan::{Plan, SIZE, hits, running, timer_delays};
+use reaction::plan::{Plan, blank, hits, running, timer_delays};
 use reaction::tick::{Sets, rounds, start_of, triggered};
 use reaction::why::{Why, reason};
 use run::deadlines::{deadlines, due};
@@ -18,15 +18,20 @@ use run::state::State;
 use sheet::words::{event_count, transition_count, wide};
 
 // What the tick from an admitted state reports of transition t: 8 or 9, or a reason.
-fn tick_report(sheet: &[u32], plan: &Plan, state: State, input: u32, t: usize) -> Why
+fn tick_report(
+    sheet: &[u32],
+    plan: &Plan,
+    state: State,
+    input: u32,
+    t: usize,
+) -> Result<Why, Refusal>
     requires { Planned sheet.now plan.now
         × (state_ok sheet.now (state_of state) ≡ true)
         × (t < t_of sheet.now)
         × (input < 2 ^ k_of sheet.now) }
-    ensures { report_of result ≡ why sheet.now (state_of state) input t }
+    ensures { answer_of result ≡ why sheet.now (state_of state) input t }
 {
-    let readings = state.readings;
-    let ends = deadlines(readings);
+    let ends = deadlines(state.readings);
     let timers = running(sheet, plan, state.at);
     let due = due(&ends, timers, 1, 0);
     let b = start_of(sheet, plan, state.at);
@@ -40,33 +45,29 @@ fn tick_report(sheet: &[u32], plan: &Plan, state: State, input: u32, t: usize) -
     };
     let first = triggered(sheet, sure, b.unsure, z, b.begun, input);
     let o = rounds(sheet, plan, b.begun, b.entered, first, input);
-    let refusal = o.refusal;
-    if number(refusal) != 0 {
-        return Why::Refused(refusal);
+    if let Some(why) = o.refusal {
+        return Err(why);
     }
-    reason(sheet, plan, b, first, input, o, t)
+    Ok(reason(sheet, plan, b, first, input, o, t))
 }
 
 // Why a transition stayed put, on any sheet words, state, input set and transition number: 1 to 6, 14, 16, 13, then 8 or 9, or a reason.
-pub fn why(sheet: &[u32], state: State, input: u32, transition: u32) -> Why
-    ensures { report_of result ≡ why sheet.now (state_of state) input transition }
+pub fn why(sheet: &[u32], state: State, input: u32, transition: u32) -> Result<Why, Refusal>
+    ensures { answer_of result ≡ why sheet.now (state_of state) input transition }
 {
-    let refusal = sheet::check(sheet);
-    if number(refusal) != 0 {
-        return Why::Refused(refusal);
-    }
-    let mut plan = [0u64; SIZE];
+    sheet::check(sheet)?;
+    let mut plan = blank();
     put_plan(sheet, &mut plan);
     let delays = timer_delays(sheet, &plan);
     if !state_ok(sheet, &plan, &delays, state) {
-        return Why::Refused(Refusal::State);
+        return Err(Refusal::State);
     }
     let t = wide(transition);
     if transition_count(sheet) <= t {
-        return Why::Refused(Refusal::Transition);
+        return Err(Refusal::Transition);
     }
     if input >> event_count(sheet) != 0 {
-        return Why::Refused(Refusal::InputSet);
+        return Err(Refusal::InputSet);
     }
     tick_report(sheet, &plan, state, input, t)
 }

@@ -1,189 +1,112 @@
 // The case of stations: what it reads after its number, the call that it makes and the line that it writes.
 #![tactic(auto)]
 
-ghost use Rattle.std.specs.Prelude.{◌≡◌, ◌+◌, ◌*◌, ◌≤◌, length, get_or, take};
-ghost use Rattle.meaning.specs.Refusal.{number_of};
+ghost use Rattle.std.specs.Prelude.{◌≡◌, ◌+◌, ◌*◌, ◌≤◌, length, take};
 ghost use Rattle.meaning.specs.Stations.{serve_stations};
-ghost use Rattle.stations.specs.Stations.{stations_of};
+ghost use Rattle.stations.specs.Stations.{stations_of, call_of};
 
-use case_text::text::Input;
-use case_text::{parts, text};
-use meaning::refusal::number;
-use run::state::{STATE_WORDS, State};
+use case_text::digests::{digest, with_word};
+use case_text::line::Line;
+use case_text::text::Text;
+use run::state::{State, fresh};
 use stations::{Served, Station, serve};
+use std::iter::once;
 
-// A station, and what is left after it.
-#[derive(Clone, Copy)]
-struct StationRead {
-    station: Station,
-    input: Input,
-}
-
-// The stations of a case, of which as many count as were asked for, and what is left after them.
-#[derive(Clone, Copy)]
-struct StationsRead {
-    list: [Station; 65],
-    input: Input,
-}
-
-// A station with a state and, in order, its position, its mark, and start and length of its parts.
-fn station_of(state: State, words: &[u32]) -> Station
-    requires { 6 ≤ length words.now }
-{
+// A fresh station with empty parts.
+fn empty() -> Station {
     Station {
-        state,
-        position: words[0],
-        mark: words[1],
-        in_start: words[2],
-        in_length: words[3],
-        out_start: words[4],
-        out_length: words[5],
+        state: fresh(),
+        position: 0,
+        mark: 0,
+        in_start: 0,
+        in_length: 0,
+        out_start: 0,
+        out_length: 0,
     }
 }
 
-// Reads a station.
-fn read_station(buf: &mut [u8; 65536], from: Input) -> StationRead {
-    let read = parts::read_state(buf, from);
-    let mut words = [0u32; 6];
-    let input = text::numbers(buf, read.input, &mut words);
-    let station = station_of(read.state, &words);
-    StationRead { station, input }
+// A station: its state, its position, its mark, and start and length of its parts.
+fn read_station(text: &mut Text) -> Station {
+    Station {
+        state: text.state(),
+        position: text.number(),
+        mark: text.number(),
+        in_start: text.number(),
+        in_length: text.number(),
+        out_start: text.number(),
+        out_length: text.number(),
+    }
 }
 
-// Reads so many stations; the others are fresh, with empty parts.
-fn read_stations(buf: &mut [u8; 65536], from: Input, count: usize) -> StationsRead
-    requires { count ≤ 65 }
-{
-    let empty = [0u32; 6];
-    let mut list = [station_of(run::state::fresh(), &empty); 65];
-    let mut input = from;
-    let mut i = 0;
-    while i < count {
-        let read = read_station(buf, input);
-        let station = read.station;
-        list[i] = station;
-        input = read.input;
-        i += 1;
+// Fills the list with the stations that come next.
+fn read_stations(text: &mut Text, list: &mut [Station]) {
+    for station in list.iter_mut() {
+        *station = read_station(text);
     }
-    StationsRead { list, input }
 }
 
 // The digest of a state: block, readings and ages.
-fn digest_state(state: State) -> u64 {
-    let mut words = [0u32; STATE_WORDS];
-    run::state::put_state(&mut words, state);
-    parts::digest(&words)
+fn digest_state(state: &State) -> u32 {
+    once(state.at)
+        .chain(state.readings.iter().copied())
+        .chain(state.ages.iter().copied())
+        .fold(0, with_word)
 }
 
-// A station into the line: its position, its mark and the digest of its state. The place after it.
-fn put_station(line: &mut [u8; 8192], from: usize, s: Station) -> usize
-    requires { from + 63 ≤ 8192 }
-    ensures { result ≤ from + 63 }
+// A station: its position, its mark and the digest of its state.
+fn put_station(line: &mut Line, station: &Station)
+    requires { line.old + 63 ≤ 8192 }
+    ensures { line.new ≤ line.old + 63 }
 {
-    let mut at = text::put(line, from, s.position as u64);
-    at = text::put(line, at, s.mark as u64);
-    text::put(line, at, digest_state(s.state))
+    line.put(station.position);
+    line.put(station.mark);
+    line.put(digest_state(&station.state));
 }
 
-// The first stations into the line; the place after them.
-fn put_stations(line: &mut [u8; 8192], from: usize, list: [Station; 65], count: usize) -> usize
-    requires { (from + 63 * 65 ≤ 8192) × (count ≤ 65) }
-    ensures { result ≤ from + 63 * 65 }
+// The stations of a list.
+fn put_stations(line: &mut Line, list: &[Station])
+    requires { line.old + 63 * length list.now ≤ 8192 }
+    ensures { line.new ≤ line.old + 63 * length list.now }
 {
-    let mut at = from;
-    let mut i = 0;
-    while i < count {
-        at = put_station(line, at, list[i]);
-        i += 1;
+    for station in list {
+        put_station(line, station);
     }
-    at
 }
 
-// Writes the line of a call, with its refusal and the allowance spent, the digest of the output words and the stations.
-fn write_served(info: &[u64], outputs: u64, list: [Station; 65], count: usize)
-    requires { (2 ≤ length info.now) × (count ≤ 65) }
-{
-    let mut line = [0u8; 8192];
-    let mut at = text::start(&mut line, b"stations");
-    at = text::put(&mut line, at, info[0]);
-    at = text::put(&mut line, at, info[1]);
-    at = text::put(&mut line, at, outputs);
-    at = put_stations(&mut line, at, list, count);
-    text::write(&mut line, at);
-}
-
-// The refusal and the allowance spent, noted in two words; the refusal's number.
-fn note_served(info: &mut [u64], served: Served) -> u32
-    requires { 2 ≤ length info.old }
-    ensures { (get_or info.new 0 0 ≡ number_of served.refusal) × (get_or info.new 1 0 ≡ served.spent) }
-{
-    let why = served.refusal;
-    info[0] = number(why) as u64;
-    info[1] = served.spent;
-    number(why)
-}
-
-// Serves the first stations of an array, which is returned; the refusal and the allowance spent go into `info`.
+// Serves the first stations of an array.
 fn serve_listed(
-    list: [Station; 65],
+    list: &mut [Station; 65],
     count: usize,
     table: &[u32],
     inputs: &[u32],
     out: &mut [u32],
     allowance: u64,
-    info: &mut [u64],
-) -> [Station; 65]
-    requires { (count ≤ 65) × (2 ≤ length info.old) }
-    ensures { record {
-      refusal = get_or info.new 0 0;
-      spent = get_or info.new 1 0;
-      stations = stations_of (take count result);
-      out = out.new;
-    }
-        ≡ serve_stations table.now (stations_of (take count list)) inputs.now out.old allowance }
-{
-    let mut all = list;
-    let served = serve(&mut all[..count], table, inputs, out, allowance);
-    note_served(info, served);
-    all
-}
-
-// Serves the stations and writes the line of the call.
-fn serve_read(
-    list: [Station; 65],
-    count: usize,
-    table: &[u32],
-    inputs: &[u32],
-    out: &mut [u32],
-    allowance: u32,
-)
+) -> Served
     requires { count ≤ 65 }
+    ensures { call_of result (take count list.new) out.new
+        ≡ serve_stations table.now (stations_of (take count list.old)) inputs.now out.old allowance }
 {
-    let mut info = [0u64; 2];
-    let after = serve_listed(list, count, table, inputs, out, allowance as u64, &mut info);
-    write_served(&info, parts::digest(out), after, count);
+    serve(&mut list[..count], table, inputs, out, allowance)
 }
 
-// Case 16: stations on the current table.
-pub fn serve_stations(buf: &mut [u8; 65536], from: Input, table: &[u32]) -> Input {
-    let mut inputs = [0u32; 400];
-    let mut out = [4294967295u32; 2000];
-    let allowance = text::number(buf, from);
-    let sets = parts::read_words(buf, allowance.input, &mut inputs);
-    let words = text::number(buf, sets.input);
-    let stations = text::number(buf, words.input);
-    let m = sets.words;
-    let o = text::at_most(words.value, 2000);
-    let count = text::at_most(stations.value, 65);
-    let read = read_stations(buf, stations.input, count);
-    let list = read.list;
-    serve_read(
-        list,
-        count,
-        table,
-        &inputs[..m],
-        &mut out[..o],
-        allowance.value,
-    );
-    read.input
+// Case 16: stations on the current table. The line has the refusal and the allowance spent, the digest of the output words and the
+// stations.
+pub fn serve_stations(text: &mut Text, table: &[u32]) {
+    let mut inputs = [0; 400];
+    let mut out = [u32::MAX; 2000];
+    let mut list = [empty(); 65];
+    let allowance = text.number();
+    let sets = text.words(&mut inputs);
+    let words = text.count(out.len());
+    let count = text.count(list.len());
+    read_stations(text, &mut list[..count]);
+    let inputs = &inputs[..sets];
+    let out = &mut out[..words];
+    let served = serve_listed(&mut list, count, table, inputs, out, u64::from(allowance));
+    let mut line = Line::start(b"stations");
+    line.put_refusal(served.refusal);
+    line.put(served.spent);
+    line.put(digest(out));
+    put_stations(&mut line, &list[..count]);
+    line.write();
 }

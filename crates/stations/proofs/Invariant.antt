@@ -8,7 +8,7 @@ use native.Mathlib.Nat.{sub_self, sub-zero}
 use lib.ListN.{length, get_or, drop}
 use Rattle.sets.specs.Sets.{every}
 use Rattle.sets.proofs.Tests.{of_true, of_false}
-use Rattle.meaning.specs.Refusal.{number_of}
+use Rattle.meaning.specs.Refusal.{number_or_0}
 use Rattle.meaning.specs.Table.{table_ok}
 use Rattle.meaning.specs.Stations as meaning
 use Rattle.meaning.specs.Stations.{Standing, station_count, all_passes, wrong_number, parts_ok, standing_at, call_done, call_refused, serve_stations}
@@ -16,13 +16,25 @@ use Rattle.turns.specs.Sweeps.{working_below, sweep_from}
 use Rattle.turns.proofs.SweepLaws.{passes_spent, passes_idle, sweep_passes}
 use Rattle.recorder.specs.Timers.{Noted}
 use Rattle.stations.specs.declared.Station.{Station}
+use Rattle.stations.specs.declared.Phase.{Phase}
+use Rattle.stations.specs.declared.Phase.TheVariants as phase
 use Rattle.stations.specs.declared.Schedule.{Schedule}
 use Rattle.stations.specs.Stations.{stations_of, unlisted}
-use Rattle.stations.specs.Serving.{end_of, PartsAt}
+use Rattle.stations.specs.Serving.{is_looking, is_over, refusal_at_end, end_of, PartsAt}
 use Rattle.stations.proofs.AloneTurns.{stations_count}
 use Rattle.stations.proofs.ScheduleLaws.{turns_some, turns_good, Once, ends, again}
 use Rattle.stations.proofs.LookLaws.{look_ok}
 use Rattle.stations.proofs.SweepSteps.{working_none}
+
+-- no phase is both
+pub one_phase : phase.Looking ≡ phase.Serving → ⊥
+one_phase e = of_false (ap is_looking e) tt
+
+-- neither the first nor the last
+pub the_middle : (x : Phase) → is_looking x ≡ false → is_over x ≡ false → x ≡ phase.Serving
+the_middle phase.Looking e f = absurd (of_false e tt)
+the_middle phase.Serving e f = refl
+the_middle (phase.Over _) e f = absurd (of_false f tt)
 
 -- where the definition stands with these stations, output words and ticks left
 abbrev pub stands : List Station → List ℕ → ℕ → Standing
@@ -62,16 +74,16 @@ module _ (w inputs : List ℕ) (ss₀ : List Station) (out₀ : List ℕ) (allow
     pub few : c.count ≤ 64
     pub here : c.at < c.count
     pub counted : c.working ≡ working_below c.at (stands ss out c.left)
-    pub looking : c.serving ≡ false → Looking c ss work out
-    pub sweeping : c.serving ≡ true → Sweeping c ss work out
+    pub looking : c.phase ≡ phase.Looking → Looking c ss work out
+    pub sweeping : c.phase ≡ phase.Serving → Sweeping c ss work out
 
   pub record Serves (c : Schedule) (ss : List Station) (work out : List ℕ) : Type 0 where
     pub count : c.count ≡ length ss
     pub stations : length ss ≡ length ss₀
     pub room : length out ≡ length out₀
     pub words : length work ≡ 4449
-    pub going : c.going ≡ true → Going c ss work out
-    pub ended : c.going ≡ false → end_of allowance c ss out ≡ answer
+    pub going : is_over c.phase ≡ false → Going c ss work out
+    pub ended : is_over c.phase ≡ true → end_of allowance c ss out ≡ answer
 
   -- ---- between two sweeps, and before the first: all passes from here end where those of the definition do
   pub record Between (ss : List Station) (work out : List ℕ) (left : ℕ) : Type 0 where
@@ -94,7 +106,7 @@ module _ (w inputs : List ℕ) (ss₀ : List Station) (out₀ : List ℕ) (allow
         stations = b.stations;
         room = b.room;
         words = b.words;
-        going = λ e. absurd (of_true e);
+        going = λ e. absurd (of_false e tt);
         ended = λ _. ap (call_done allowance) (sym (over h) ∙ b.rest) ∙ sym b.goes;
       }
     where
@@ -116,7 +128,7 @@ module _ (w inputs : List ℕ) (ss₀ : List Station) (out₀ : List ℕ) (allow
               few = subst (λ (x : ℕ). x ≤ 64) (sym en) b.few;
               here = subst (λ (x : ℕ). 0 < x) (sym en) b.some_stations;
               counted = sym (working_none a);
-              looking = λ e. absurd (of_false e tt);
+              looking = λ e. absurd (one_phase (sym e));
               sweeping =
                   λ _. record {
                     some_left = y;
@@ -127,7 +139,7 @@ module _ (w inputs : List ℕ) (ss₀ : List Station) (out₀ : List ℕ) (allow
                     goes = b.goes;
                   };
             };
-        ended = λ e. absurd (of_false e tt);
+        ended = λ e. absurd (of_true e);
       }
     where
       a : Standing
@@ -149,6 +161,6 @@ module _ (w inputs : List ℕ) (ss₀ : List Station) (out₀ : List ℕ) (allow
 
   -- ---- a refused call
   pub refused : (c : Schedule) (ss : List Station) (out : List ℕ) → ss ≡ ss₀ → out ≡ out₀ → c.left ≡ allowance
-      → end_of allowance c ss out ≡ call_refused (number_of c.refusal) (stations_of ss₀) out₀
+      → end_of allowance c ss out ≡ call_refused (number_or_0 (refusal_at_end c.phase)) (stations_of ss₀) out₀
   unfolding call_refused
   refused c ss out es eo el = rw (es, eo, el, sub_self) refl

@@ -23,7 +23,7 @@ use Rattle.stations.proofs.ScheduleLaws.{AfterLook}
 use Rattle.stations.proofs.LookLaws.{look_ok, looks_parts, look_fails}
 use Rattle.stations.proofs.CallLaws.{call_parts, call_goes, number_e}
 use Rattle.stations.proofs.SweepSteps.{working_next}
-use Rattle.stations.proofs.Invariant.{stands, last, Looking, Going, Serves, once_serves, refused}
+use Rattle.stations.proofs.Invariant.{stands, last, Looking, Going, Serves, one_phase, once_serves, refused}
 
 -- w: the table; inputs: the input list; ss₀, out₀, allowance: where the call began
 module _ {w inputs : List ℕ} {ss₀ : List Station} {out₀ : List ℕ} {allowance : ℕ}
@@ -77,7 +77,7 @@ module _ {w inputs : List ℕ} {ss₀ : List Station} {out₀ : List ℕ} {allow
           stations = v.stations;
           room = v.room;
           words = same-words ∙ v.words;
-          going = λ z. absurd (of_true z);
+          going = λ z. absurd (of_false z tt);
           ended =
               λ _. refused w inputs ss₀ out₀ allowance r ss out k.same_stations k.same_out k.whole
               ∙ sym (call_parts w (stations_of ss₀) inputs out₀ allowance g.table number broken);
@@ -109,9 +109,9 @@ module _ {w inputs : List ℕ} {ss₀ : List Station} {out₀ : List ℕ} {allow
                       parts = looked_parts;
                       noted = λ _. l.noted;
                     };
-                sweeping = λ z. absurd (of_true z);
+                sweeping = λ z. absurd (one_phase z);
               };
-          ended = λ z. absurd (of_false z tt);
+          ended = λ z. absurd (of_true z);
         }
     looked_serves r (AfterLook.all e y _ o) =
         once_serves w inputs ss₀ out₀ allowance ss work' out c.left (c.working + digit works) c.count r

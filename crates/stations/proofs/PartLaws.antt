@@ -1,9 +1,9 @@
 -- Parts of stations: how they are tested, and how they are noted. Assumes nothing.
 use mathlib.Core.Path.{◌≡◌, refl, sym, ◌∙◌}
-use mathlib.Core.Logic.{inl, ⊎_elim}
+use mathlib.Core.Logic.{inl}
 use mathlib.Core.Bool.{Bool, true, false, not, and-true}
 use mathlib.Core.List.{List, [], ◌∷◌}
-use Prim.Native.Nat.{ℕ, ◌+◌, ◌-◌, ◌*◌, ◌≤◌, ◌<◌}
+use Prim.Native.Nat.{ℕ, ◌+◌, ◌*◌, ◌≤◌, ◌<◌}
 use native.Mathlib.Nat.{add-zero}
 use native.Mathlib.Numerals.{towards_suc}
 use native.Mathlib.Omega.{arith}
@@ -12,7 +12,7 @@ use lib.ListN.{length, get_or, set, drop}
 use lib.Seq.{drop-set-lt}
 use borrow.Author.Tests.{lt-ltb, le-ltb, le-leb, lt-leb}
 use Rattle.sets.specs.Sets.{every}
-use Rattle.sets.proofs.Tests.{bool_ext, below_or_not}
+use Rattle.sets.proofs.Tests.{bool_ext}
 use Rattle.sets.proofs.Facts.{every_e, every_i}
 use Rattle.rows.specs.Over.{over}
 use Rattle.rows.proofs.OverLaws.{over_sets, over_in, over_out}
@@ -20,15 +20,6 @@ use Rattle.meaning.specs.Lists.{all_of}
 use Rattle.meaning.specs.Stations.{shares}
 use Rattle.stations.specs.declared.Station.{Station}
 use Rattle.stations.specs.Serving.{PartsAt, apart_from, parts_within}
-
--- a place before a part's start lies before its end; any other does by a difference
-pub before_start : (place start length : ℕ) → place < start → true ≡ ltb place (start + length)
-before_start place start length h = sym (lt-ltb place (start + length) (omega arith))
-
-pub before_end_by : (place start length : ℕ) → start ≤ place → ltb (place - start) length ≡ ltb place (start + length)
-before_end_by place start length h =
-    ⊎_elim (λ k. lt-ltb (place - start) length (omega arith) ∙ sym (lt-ltb place (start + length) k))
-    (λ k. le-ltb (place - start) length (omega arith) ∙ sym (le-ltb place (start + length) k)) (below_or_not place (start + length))
 
 -- ---- two parts share a word
 

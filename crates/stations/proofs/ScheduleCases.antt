@@ -1,16 +1,16 @@
 -- The schedule after a turn, case by case. Assumes nothing.
+use Rattle.std.specs.Prelude.{Some, None}
 use mathlib.Core.Path.{◌≡◌, refl, sym, ap, ◌∙◌}
 use mathlib.Core.Bool.{Bool, true, false}
 use mathlib.Core.List.{List}
-use Prim.Native.Nat.{ℕ, ◌+◌, ◌/◌, ◌≤◌, ◌<◌, max}
+use Prim.Native.Nat.{ℕ, ◌+◌, ◌≤◌, ◌<◌}
 use native.Mathlib.Nat.{add-zero}
-use native.Mathlib.Omega.{arith}
-use lib.Dec.{ltb}
 use borrow.Author.Tests.{eq-eqb, ne_eqb, lt-ltb, le-ltb}
 use Rattle.sets.specs.Sets.{digit}
-use Rattle.meaning.specs.declared.refusal.Refusal.TheVariants.{Nothing, Layout, Stations, Parts}
+use Rattle.meaning.specs.declared.refusal.Refusal.TheVariants.{Layout, Stations, Parts}
 use Rattle.meaning.specs.Table.{table_ok}
 use Rattle.meaning.specs.Stations.{wrong_number}
+use Rattle.stations.specs.declared.Phase.TheVariants.{Looking, Serving}
 use Rattle.stations.specs.declared.Schedule.{Schedule}
 use Rattle.stations.specs.Serving.{stops_at, sweeps, once_more, next_turn, first_of, looked_of, served_of}
 
@@ -29,34 +29,22 @@ pub number_none : (n : ℕ) → n ≡ 0 → wrong_number n ≡ true
 unfolding wrong_number
 number_none n e = rw (eq-eqb n 0 e) refl
 
-pub number_many : (n : ℕ) → (n ≡ 0 → ⊥) → ltb 64 n ≡ true → wrong_number n ≡ true
+pub number_many : (n : ℕ) → (n ≡ 0 → ⊥) → 64 < n → wrong_number n ≡ true
 unfolding wrong_number
-number_many n e h = rw (ne_eqb n 0 e, h) refl
+number_many n e h = rw (ne_eqb n 0 e, lt-ltb 64 n h) refl
 
-pub number_fits : (n : ℕ) → (n ≡ 0 → ⊥) → ltb 64 n ≡ false → wrong_number n ≡ false
+pub number_fits : (n : ℕ) → (n ≡ 0 → ⊥) → n ≤ 64 → wrong_number n ≡ false
 unfolding wrong_number
-number_fits n e h = rw (ne_eqb n 0 e, h) refl
+number_fits n e h = rw (ne_eqb n 0 e, le-ltb 64 n h) refl
 
 -- ---- after the last station
 
--- at least one turn each
-pub turns_one : (d : ℕ) → d ≡ 0 → 1 ≡ max 1 d
-turns_one d e = omega arith
-
-pub turns_more : (d : ℕ) → (d ≡ 0 → ⊥) → d ≡ max 1 d
-turns_more d n = omega arith
-
-pub sweep_turns : (count left working t : ℕ) → t ≡ max 1 (left / working)
-    → record { going = true; serving = true; at = 0; count = count; left = left; turns = t; working = 0; refusal = Nothing }
-    ≡ sweeps count left working
-sweep_turns count left working t e = rw e refl
-
 module _ (count left working : ℕ) where
-  pub once_spent : left ≡ 0 → once_more count left working ≡ stops_at Nothing count count left
+  pub once_spent : left ≡ 0 → once_more count left working ≡ stops_at None count count left
   unfolding once_more
   once_spent e = rw (eq-eqb left 0 e) refl
 
-  pub once_idle : (left ≡ 0 → ⊥) → working ≡ 0 → once_more count left working ≡ stops_at Nothing count count left
+  pub once_idle : (left ≡ 0 → ⊥) → working ≡ 0 → once_more count left working ≡ stops_at None count count left
   unfolding once_more
   once_idle n e = rw (ne_eqb left 0 n, eq-eqb working 0 e) refl
 
@@ -67,17 +55,17 @@ module _ (count left working : ℕ) where
 -- ---- the first turn
 
 module _ (w : List ℕ) (count left : ℕ) where
-  pub first_layout : table_ok w ≡ false → first_of w count left ≡ stops_at Layout 0 count left
+  pub first_layout : table_ok w ≡ false → first_of w count left ≡ stops_at (Some Layout) 0 count left
   unfolding first_of
   first_layout e = rw e refl
 
-  pub first_number : table_ok w ≡ true → wrong_number count ≡ true → first_of w count left ≡ stops_at Stations 0 count left
+  pub first_number : table_ok w ≡ true → wrong_number count ≡ true → first_of w count left ≡ stops_at (Some Stations) 0 count left
   unfolding first_of
   first_number e h = rw (e, h) refl
 
   pub first_goes : table_ok w ≡ true → wrong_number count ≡ false
       → first_of w count left
-      ≡ record { going = true; serving = false; at = 0; count = count; left = left; turns = 0; working = 0; refusal = Nothing }
+      ≡ record { phase = Looking; at = 0; count = count; left = left; turns = 0; working = 0 }
   unfolding first_of
   first_goes e h = rw (e, h) refl
 
@@ -85,12 +73,12 @@ module _ (w : List ℕ) (count left : ℕ) where
 
 module _ (c : Schedule) (works : Bool) where
   module _ (well : Bool) where
-    pub looked_ill : well ≡ false → looked_of c well works ≡ stops_at Parts (c.at + 1) c.count c.left
+    pub looked_ill : well ≡ false → looked_of c well works ≡ stops_at (Some Parts) (c.at + 1) c.count c.left
     unfolding looked_of
     looked_ill e = rw e refl
 
     pub looked_next : well ≡ true → c.at + 1 < c.count
-        → looked_of c well works ≡ next_turn c false c.left (c.working + digit works)
+        → looked_of c well works ≡ next_turn c Looking c.left (c.working + digit works)
     unfolding looked_of
     looked_next e h = rw (e, lt-ltb (c.at + 1) c.count h) refl
 
@@ -100,12 +88,12 @@ module _ (c : Schedule) (works : Bool) where
     looked_last e h = rw (e, le-ltb (c.at + 1) c.count h) refl
 
   module _ (left : ℕ) where
-    pub served_spent : left ≡ 0 → served_of c left works ≡ stops_at Nothing (c.at + 1) c.count left
+    pub served_spent : left ≡ 0 → served_of c left works ≡ stops_at None (c.at + 1) c.count left
     unfolding served_of
     served_spent e = rw (eq-eqb left 0 e) refl
 
     pub served_next : (left ≡ 0 → ⊥) → c.at + 1 < c.count
-        → served_of c left works ≡ next_turn c true left (c.working + digit works)
+        → served_of c left works ≡ next_turn c Serving left (c.working + digit works)
     unfolding served_of
     served_next e h = rw (ne_eqb left 0 e, lt-ltb (c.at + 1) c.count h) refl
 

@@ -1,4 +1,5 @@
 -- The loop over the turns of a call: what it keeps, that it ends, and what holds then. Assumes nothing.
+use Rattle.std.specs.Prelude.{Option, Some}
 use mathlib.Core.Path.{◌≡◌, refl, sym, ap, ◌∙◌, subst}
 use mathlib.Core.Bool.{Bool, true, false, not, cond}
 use mathlib.Core.List.{List}
@@ -9,21 +10,23 @@ use lib.Seq.{set-get_or}
 use Rattle.sets.proofs.Tests.{of_true, of_false}
 use Rattle.sets.proofs.Loops.{every_start}
 use Rattle.meaning.specs.declared.refusal.Refusal.{Refusal}
-use Rattle.meaning.specs.declared.refusal.Refusal.TheVariants.{Nothing, Layout, Stations}
-use Rattle.meaning.specs.Refusal.{number_of}
+use Rattle.meaning.specs.declared.refusal.Refusal.TheVariants.{Layout, Stations}
+use Rattle.meaning.specs.Refusal.{number_or_0}
 use Rattle.meaning.specs.Table.{table_ok}
-use Rattle.meaning.specs.Stations.{has_work, wrong_number, call_refused, serve_stations}
+use Rattle.meaning.specs.Stations.{has_work, wrong_number, call_refused}
 use Rattle.recorder.specs.Timers.{Noted}
 use Rattle.stations.specs.declared.Station.{Station}
+use Rattle.stations.specs.declared.Phase.{Phase}
+use Rattle.stations.specs.declared.Phase.TheVariants.{Looking, Serving, Over}
 use Rattle.stations.specs.declared.Schedule.{Schedule}
 use Rattle.stations.specs.Stations.{station_of, stations_of, unlisted}
-use Rattle.stations.specs.Serving.{stops_at, first_of, looked_of, most, end_of, parts_within, Ready, Stepped}
+use Rattle.stations.specs.Serving.{is_looking, is_over, stops_at, first_of, looked_of, most, parts_within, Ready, Stepped}
 use Rattle.stations.proofs.AloneTurns.{stations_count}
 use Rattle.stations.proofs.ScheduleLaws.{AfterLook, looked_is, looked_less, AfterTurns, served_is}
 use Rattle.stations.proofs.LookLaws.{look_ok, parts_fit_lem, within_is, look_is}
 use Rattle.stations.proofs.CallLaws.{call_table, call_number, number_e}
 use Rattle.stations.proofs.SweepSteps.{working_none, working_le}
-use Rattle.stations.proofs.Invariant.{stands, answer, Serves, refused}
+use Rattle.stations.proofs.Invariant.{stands, answer, Serves, one_phase, the_middle, refused}
 use Rattle.stations.proofs.LookSteps.{looked_serves}
 use Rattle.stations.proofs.TurnSteps.{turned_serves, turned_less}
 
@@ -37,9 +40,9 @@ start w inputs ss work out left words = go (table_ok w) (wrong_number (length ss
     n = length ss
 
     first : Schedule
-    first = record { going = true; serving = false; at = 0; count = n; left = left; turns = 0; working = 0; refusal = Nothing }
+    first = record { phase = Looking; at = 0; count = n; left = left; turns = 0; working = 0 }
 
-    stop : (e : Refusal) → call_refused (number_of e) (stations_of ss) out ≡ answer w inputs ss out left
+    stop : (e : Option Refusal) → call_refused (number_or_0 e) (stations_of ss) out ≡ answer w inputs ss out left
         → Serves w inputs ss out left (stops_at e 0 n left) ss work out
     stop e q =
         record {
@@ -47,7 +50,7 @@ start w inputs ss work out left words = go (table_ok w) (wrong_number (length ss
           stations = refl;
           room = refl;
           words = words;
-          going = λ z. absurd (of_true z);
+          going = λ z. absurd (of_false z tt);
           ended = λ _. refused w inputs ss out left (stops_at e 0 n left) ss out refl refl refl ∙ q;
         }
 
@@ -55,9 +58,9 @@ start w inputs ss work out left words = go (table_ok w) (wrong_number (length ss
     same = ap wrong_number (stations_count ss)
 
     go : (x y : Bool) → table_ok w ≡ x → wrong_number n ≡ y
-        → Serves w inputs ss out left (cond (not x) (stops_at Layout 0 n left) (cond y (stops_at Stations 0 n left) first)) ss work out
-    go false y e f = stop Layout (sym (call_table w (stations_of ss) inputs out left e))
-    go true true e f = stop Stations (sym (call_number w (stations_of ss) inputs out left e (same ∙ f)))
+        → Serves w inputs ss out left (cond (not x) (stops_at (Some Layout) 0 n left) (cond y (stops_at (Some Stations) 0 n left) first)) ss work out
+    go false y e f = stop (Some Layout) (sym (call_table w (stations_of ss) inputs out left e))
+    go true true e f = stop (Some Stations) (sym (call_number w (stations_of ss) inputs out left e (same ∙ f)))
     go true false e f =
         record {
           count = refl;
@@ -80,9 +83,9 @@ start w inputs ss work out left words = go (table_ok w) (wrong_number (length ss
                       parts = λ m l. absurd (not-suc-le-zero l);
                       noted = λ l. absurd (not-suc-le-zero l);
                     };
-                sweeping = λ z. absurd (of_true z);
+                sweeping = λ z. absurd (one_phase z);
               };
-          ended = λ z. absurd (of_false z tt);
+          ended = λ z. absurd (of_true z);
         }
 
 pub serves_start : {w inputs : List ℕ} {c : Schedule} {ss : List Station} {work out : List ℕ} → c ≡ first_of w (length ss) c.left
@@ -94,11 +97,14 @@ serves_start {w} {inputs} {c} {ss} {work} {out} e words =
 module _ {w inputs : List ℕ} {ss₀ : List Station} {out₀ : List ℕ} {allowance : ℕ}
     {c : Schedule} {ss : List Station} {work out : List ℕ}
     (v : Serves w inputs ss₀ out₀ allowance c ss work out) where
-  here : c.going ≡ true → c.at < length ss
+  here : is_over c.phase ≡ false → c.at < length ss
   here e = subst (λ (n : ℕ). c.at < n) v.count (v.going e).here
 
+  still : is_over c.phase ≡ false → (why : Option Refusal) → c.phase ≡ Over why → ⊥
+  still e why s = of_false e (of_true (ap is_over s))
+
   -- a turn may come
-  pub serves_ready : c.going ≡ true → (c.at < length ss) × Ready w inputs (get_or ss c.at unlisted) c work out
+  pub serves_ready : is_over c.phase ≡ false → (c.at < length ss) × Ready w inputs (get_or ss c.at unlisted) c work out
   serves_ready e =
       let g = v.going e in (
         here e,
@@ -108,32 +114,29 @@ module _ {w inputs : List ℕ} {ss₀ : List Station} {out₀ : List ℕ} {allow
           few = g.few;
           counted = subst (λ (n : ℕ). n ≤ c.at) (sym g.counted) (working_le c.at (stands ss out c.left));
           room = v.words;
-          noted = λ l. noted l c.serving refl;
-          serves = λ s. let k = g.sweeping s in (k.some_left, k.some_turns, k.noted, within s);
+          noted = λ l. noted l c.phase refl;
+          serves = λ n. let s = the_middle c.phase n e in let k = g.sweeping s in (k.some_left, k.some_turns, k.noted, within s);
         },
       )
     where
-      noted : 0 < c.at → (x : Bool) → c.serving ≡ x → Noted w (drop 256 work)
-      noted l false s = ((v.going e).looking s).noted l
-      noted l true s = ((v.going e).sweeping s).noted
+      noted : 0 < c.at → (x : Phase) → c.phase ≡ x → Noted w (drop 256 work)
+      noted l Looking s = ((v.going e).looking s).noted l
+      noted l Serving s = ((v.going e).sweeping s).noted
+      noted l (Over why) s = absurd (still e why s)
 
       here_of : c.at < length (stations_of ss)
       here_of = subst (λ (n : ℕ). c.at < n) (sym (stations_count ss)) (here e)
 
-      within : c.serving ≡ true → parts_within (length inputs) (length out) (get_or ss c.at unlisted) ≡ true
+      within : c.phase ≡ Serving → parts_within (length inputs) (length out) (get_or ss c.at unlisted) ≡ true
       within s =
           within_is ss inputs out c.at (here e)
           ∙ parts_fit_lem (stations_of ss) inputs out c.at here_of ((v.going e).sweeping s).parts
 
-  -- the end
-  pub serves_end : c.going ≡ false → end_of allowance c ss out ≡ serve_stations w (stations_of ss₀) inputs out₀ allowance
-  serves_end e = v.ended e
-
   -- a turn
   module _ {r : Schedule} {ss' : List Station} {work' out' : List ℕ}
-      (e : c.going ≡ true) (p : Stepped w inputs c ss work out r ss' work' out') where
+      (e : is_over c.phase ≡ false) (p : Stepped w inputs c ss work out r ss' work' out') where
     -- the schedule after a look, and after a station's turns
-    after_look : c.serving ≡ false
+    after_look : c.phase ≡ Looking
         → AfterLook c (look_ok (stations_of ss) inputs out c.at) (has_work (station_of (get_or ss c.at unlisted))) r
     after_look s =
         let works = has_work (station_of (get_or ss c.at unlisted)) in
@@ -142,31 +145,35 @@ module _ {w inputs : List ℕ} {ss₀ : List Station} {out₀ : List ℕ} {allow
         subst (AfterLook c well works) (sym ((p.turned.looked s).schedule ∙ ap (λ (x : Bool). looked_of c x works) same))
         (looked_is c well works)
 
-    after_turns : (s : c.serving ≡ true) → AfterTurns c (p.turned.served s).left (has_work (station_of p.station)) r
-    after_turns s =
-        let k = p.turned.served s in
+    after_turns : (n : is_looking c.phase ≡ false) → AfterTurns c (p.turned.served n).left (has_work (station_of p.station)) r
+    after_turns n =
+        let k = p.turned.served n in
         let works = has_work (station_of p.station) in
         subst (AfterTurns c k.left works) (sym k.schedule) (served_is c k.left works)
 
     pub serves_step : Serves w inputs ss₀ out₀ allowance r ss' work' out'
-    serves_step = go c.serving refl
+    serves_step = go c.phase refl
       where
-        go : (x : Bool) → c.serving ≡ x → Serves w inputs ss₀ out₀ allowance r ss' work' out'
-        go false s =
+        go : (x : Phase) → c.phase ≡ x → Serves w inputs ss₀ out₀ allowance r ss' work' out'
+        go Looking s =
             let l = p.turned.looked s in
             let same : ss' ≡ ss = p.put ∙ ap (set ss c.at) l.station ∙ set-get_or ss c.at unlisted in
             let g = v.going e in
             rw (same, l.same_out) (looked_serves v g (g.looking s) l p.same_room r (after_look s))
-        go true s =
-            let d = p.turned.served s in
+        go (Over why) s = absurd (still e why s)
+        go Serving s =
+            let n = ap is_looking s in
+            let d = p.turned.served n in
             let g = v.going e in
-            rw (p.put, d.same_work) (turned_serves v g (g.sweeping s) d p.same_length r (after_turns s))
+            rw (p.put, d.same_work) (turned_serves v g (g.sweeping s) d p.same_length r (after_turns n))
 
     pub serves_less : most r < most c
-    serves_less = go c.serving refl
+    serves_less = go c.phase refl
       where
-        go : (x : Bool) → c.serving ≡ x → most r < most c
-        go false s = looked_less c r _ _ s (v.going e).here (after_look s)
-        go true s =
+        go : (x : Phase) → c.phase ≡ x → most r < most c
+        go Looking s = looked_less c r _ _ s (v.going e).here (after_look s)
+        go (Over why) s = absurd (still e why s)
+        go Serving s =
+            let n = ap is_looking s in
             let g = v.going e in
-            turned_less v g (g.sweeping s) (p.turned.served s) p.same_length r s (after_turns s)
+            turned_less v g (g.sweeping s) (p.turned.served n) p.same_length r s (after_turns n)

@@ -1,6 +1,5 @@
 -- Laws for the turn of a station. Assumes nothing.
 use mathlib.Core.Path.{◌≡◌, refl, sym, ap, ◌∙◌}
-use mathlib.Core.Logic.{◌⊎◌, inl, inr}
 use mathlib.Core.Bool.{true, false}
 use mathlib.Core.List.{List, [], ◌∷◌, ◌++◌, append-nil}
 use Prim.Native.Nat.{ℕ, ◌+◌, ◌-◌, ◌*◌, ◌≤◌, zero-le, ◌<◌, min}
@@ -11,7 +10,7 @@ use lib.Seq.{drop_at, get_or-take, length-take-le}
 use borrow.Author.Tests.{eq-eqb, ne_eqb}
 use borrow.Rule.Slice.PartMut.{put_mid}
 use Rattle.sets.proofs.Tests.{of_true}
-use Rattle.meaning.specs.Refusal.{number_of}
+use Rattle.meaning.specs.Refusal.{number_or_0}
 use Rattle.meaning.specs.Run.{State, stops, Run, ran}
 use Rattle.meaning.specs.Table.{k_in}
 use Rattle.meaning.specs.TableRun.{table_step, table_run}
@@ -27,7 +26,7 @@ use Rattle.turns.proofs.Commuting.{work_e}
 use Rattle.stations.specs.declared.Station.{Station}
 use Rattle.stations.specs.declared.Schedule.{Schedule}
 use Rattle.stations.specs.Stations.{station_of}
-use Rattle.stations.specs.Serving.{served_of, parts_within, Ready, Given}
+use Rattle.stations.specs.Serving.{is_looking, served_of, parts_within, Ready, Given}
 use Rattle.allowance.proofs.TickLaws.{tick_keeps}
 use Rattle.stations.proofs.BatchLaws.{after_run, batch}
 
@@ -41,18 +40,6 @@ module _ (s : meaning.Station) where
   pub work_unmarked : s.mark ≡ 0 → ltb s.position s.in_length ≡ has_work s
   unfolding has_work
   work_unmarked e = sym (rw (eq-eqb s.mark 0 e) refl)
-
--- ---- the fewest of two numbers, as the code finds it
-
-pub fewer : (a b n : ℕ) → ((a < b) × (n ≡ a)) ⊎ ((b ≤ a) × (n ≡ b)) → n ≡ min a b
-fewer a b n (inl h) = let l = h.0 in let e = h.1 in omega arith
-fewer a b n (inr h) = let l = h.0 in let e = h.1 in omega arith
-
-pub fewest_first : (a n : ℕ) {m : ℕ} → n ≡ m → a < n → a ≡ min a m
-fewest_first a n e l = omega arith
-
-pub fewest_rest : (a n : ℕ) {m : ℕ} → n ≡ m → n ≤ a → n ≡ min a m
-fewest_rest a n e l = omega arith
 
 -- ---- the part from n on, lent and put back
 
@@ -91,7 +78,7 @@ run_done w q is out =
 -- ---- the turns of a station that has work
 
 module _ (w inputs : List ℕ) (s : Station) (c : Schedule) (work out : List ℕ) (ready : Ready w inputs s c work out)
-    (serves : c.serving ≡ true) (works : has_work (station_of s) ≡ true) where
+    (serves : is_looking c.phase ≡ false) (works : has_work (station_of s) ≡ true) where
   pub not_at_end : s.position < s.in_length
   not_at_end = (work_e (station_of s) (of_true works)).1
 
@@ -155,7 +142,7 @@ module _ (w inputs : List ℕ) (s : Station) (c : Schedule) (work out : List ℕ
 
       -- the station after it, and the schedule
       pub given_by_run : (t : Station) (next : Schedule)
-          → station_of t ≡ after_run (station_of s) r.done.0 (state_of r.state) (number_of r.refusal)
+          → station_of t ≡ after_run (station_of s) r.done.0 (state_of r.state) (number_or_0 r.refusal)
           → next ≡ served_of c (c.left - r.done.0) (has_work (station_of t))
           → Given w inputs s c work out t next work (put_mid o (o + 5 * n - o) out part)
       given_by_run t next e h = record { left = c.left - r.done.0; same_work = refl; turns = turns; schedule = h }

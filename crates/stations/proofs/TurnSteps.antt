@@ -14,13 +14,14 @@ use Rattle.meaning.specs.Stations.{Standing, station_at, station_count, has_work
 use Rattle.turns.specs.Sweeps.{working_below, turns_of, sweep_from}
 use Rattle.turns.proofs.SweepLaws.{turns_parts, turns_left, turns_fall, passes_spent}
 use Rattle.stations.specs.declared.Station.{Station}
+use Rattle.stations.specs.declared.Phase.TheVariants.{Serving}
 use Rattle.stations.specs.declared.Schedule.{Schedule}
 use Rattle.stations.specs.Stations.{station_of, stations_of, unlisted}
 use Rattle.stations.specs.Serving.{most, Given}
 use Rattle.stations.proofs.AloneTurns.{stations_count, stations_at, given_turns}
 use Rattle.stations.proofs.ScheduleLaws.{AfterTurns, served_less}
 use Rattle.stations.proofs.SweepSteps.{working_after, sweep_next, sweep_done, sweep_spent}
-use Rattle.stations.proofs.Invariant.{stands, last, Sweeping, Going, Serves, once_serves}
+use Rattle.stations.proofs.Invariant.{stands, last, Sweeping, Going, Serves, one_phase, once_serves}
 
 -- w: the table; inputs: the input list; ss₀, out₀, allowance: where the call began
 module _ {w inputs : List ℕ} {ss₀ : List Station} {out₀ : List ℕ} {allowance : ℕ}
@@ -85,7 +86,7 @@ module _ {w inputs : List ℕ} {ss₀ : List Station} {out₀ : List ℕ} {allow
           stations = length-set ss c.at t ∙ v.stations;
           room = same_length ∙ v.room;
           words = v.words;
-          going = λ z. absurd (of_true z);
+          going = λ z. absurd (of_false z tt);
           ended = λ _. ap (call_done allowance) over ∙ sym k.goes;
         }
       where
@@ -105,7 +106,7 @@ module _ {w inputs : List ℕ} {ss₀ : List Station} {out₀ : List ℕ} {allow
                 few = g.few;
                 here = l;
                 counted = count_after;
-                looking = λ z. absurd (of_false z tt);
+                looking = λ z. absurd (one_phase (sym z));
                 sweeping =
                     λ _. record {
                       some_left = y;
@@ -116,7 +117,7 @@ module _ {w inputs : List ℕ} {ss₀ : List Station} {out₀ : List ℕ} {allow
                       goes = k.goes;
                     };
               };
-          ended = λ z. absurd (of_false z tt);
+          ended = λ z. absurd (of_true z);
         }
     turned_serves r (AfterTurns.all y l _ o) =
         once_serves w inputs ss₀ out₀ allowance ss' work out' left (c.working + digit (has_work (station_of t))) c.count r
@@ -138,7 +139,7 @@ module _ {w inputs : List ℕ} {ss₀ : List Station} {out₀ : List ℕ} {allow
         last_one = omega (arith, l, g.here)
 
     -- the number falls
-    pub turned_less : (r : Schedule) → c.serving ≡ true → AfterTurns c left (has_work (station_of t)) r → most r < most c
+    pub turned_less : (r : Schedule) → c.phase ≡ Serving → AfterTurns c left (has_work (station_of t)) r → most r < most c
     turned_less r e n = served_less c left (has_work (station_of t)) g.here r e no_more falls n
       where
         is : left ≡ (turns_of w inputs c.turns c.at a).left

@@ -1,6 +1,6 @@
 -- Stations and what a call returns, as the meaning has them. Assumes nothing.
 use Rattle.std.specs.Prelude.{List, map, ℕ, replicate}
-use Rattle.meaning.specs.Refusal.{number_of}
+use Rattle.meaning.specs.Refusal.{number_or_0}
 use Rattle.meaning.specs.Stations as meaning
 use Rattle.run.specs.States.{state_of}
 use Rattle.stations.specs.declared.Station.{Station}
@@ -36,4 +36,4 @@ unlisted =
 
 -- what a call returns, and the stations and output words at exit
 abbrev pub call_of : Served → List Station → List ℕ → meaning.StationsRun
-call_of r ss out = record { refusal = number_of r.refusal; spent = r.spent; stations = stations_of ss; out = out }
+call_of r ss out = record { refusal = number_or_0 r.refusal; spent = r.spent; stations = stations_of ss; out = out }

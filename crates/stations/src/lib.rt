@@ -3,10 +3,10 @@
 // what pass after pass gives.
 #![tactic(auto)]
 
-ghost use Rattle.std.specs.Prelude.{◌≡◌, false, ◌-◌, ◌<◌, length, get_or};
+ghost use Rattle.std.specs.Prelude.{◌≡◌, ◌-◌, ◌<◌, length, get_or};
 ghost use Rattle.meaning.specs.Stations.{serve_stations};
 ghost use Rattle.stations.specs.Stations.{unlisted, stations_of, call_of};
-ghost use Rattle.stations.specs.Serving.{work_words, Ready, Stepped, first_of, end_of};
+ghost use Rattle.stations.specs.Serving.{is_over, refusal_at_end, work_words, Ready, Stepped, first_of, end_of};
 
 use meaning::refusal::Refusal;
 use run::state::State;
@@ -25,6 +25,7 @@ use turn::take_turn;
 pub struct Station {
     pub state: State,
     pub position: u32,
+    // a number and no Option, since a station passes from C as it lies in memory
     pub mark: u32,
     pub in_start: u32,
     pub in_length: u32,
@@ -32,18 +33,42 @@ pub struct Station {
     pub out_length: u32,
 }
 
+// Every station's parts are looked at before the first turn is served; in the end no turn comes any more, with the refusal if there is one.
+#[derive(Clone, Copy, PartialEq, Eq)]
+pub enum Phase {
+    Looking,
+    Serving,
+    Over(Option<Refusal>),
+}
+
+impl Phase {
+    pub fn is_over(self) -> bool
+        ensures { result ≡ is_over self }
+    {
+        matches!(self, Phase::Over(_))
+    }
+
+    // The refusal, if it is over by one.
+    pub fn refusal(self) -> Option<Refusal>
+        ensures { result ≡ refusal_at_end self }
+    {
+        match self {
+            Phase::Looking | Phase::Serving => None,
+            Phase::Over(why) => why,
+        }
+    }
+}
+
 // Whose turn it is, of how many stations; the ticks left; how many turns a station gets at once; how many of the stations before this
-// one have work. Before the first turn is served (`serving`), every station's parts are looked at.
+// one have work.
 #[derive(Clone, Copy)]
 pub struct Schedule {
-    pub going: bool,
-    pub serving: bool,
+    pub phase: Phase,
     pub at: usize,
     pub count: usize,
     pub left: u64,
     pub turns: u64,
     pub working: u64,
-    pub refusal: Refusal,
 }
 
 // The work words of a call: four for the parts of each of 64 stations, then what is noted of the table.
@@ -55,7 +80,7 @@ pub const WORK_WORDS: usize = 4449;
 #[derive(Clone, Copy)]
 pub struct Served {
     pub spent: u64,
-    pub refusal: Refusal,
+    pub refusal: Option<Refusal>,
 }
 
 // A turn: the station is taken out, served by value and put back.
@@ -93,7 +118,8 @@ pub fn serve_all(
         ≡ serve_stations table.now (stations_of stations.old) inputs.now out.old start.left }
 {
     let mut c = start;
-    while c.going {
+    // Not a count: the schedule says whose turn comes.
+    while !c.phase.is_over() {
         c = serve_one(stations, c, work, table, inputs, out);
     }
     c
@@ -101,9 +127,9 @@ pub fn serve_all(
 
 // The answer, from the schedule at the end.
 fn answer(allowance: u64, end: Schedule) -> Served
-    ensures { (result.refusal ≡ end.refusal) × (result.spent ≡ (allowance - end.left)) }
+    ensures { (result.refusal ≡ refusal_at_end end.phase) × (result.spent ≡ (allowance - end.left)) }
 {
-    let why = end.refusal;
+    let why = end.phase.refusal();
     let left = end.left;
     if allowance < left {
         return Served {

@@ -67,14 +67,7 @@ pub fn apart(work: &[u64], at: usize, s: Station) -> bool
     requires { (at ≤ 64) × (part_words ≤ length work.now) }
     ensures { result ≡ every at (apart_from work.now s) }
 {
-    let mut m = 0;
-    while m < at {
-        if !apart_from(work, m, s) {
-            return false;
-        }
-        m += 1;
-    }
-    true
+    (0..at).all(|m| apart_from(work, m, s))
 }
 
 // A station's parts are noted.

@@ -1,26 +1,23 @@
 // Whose turn it is.
-ghost use Rattle.std.specs.Prelude.{◌≡◌, true, false, ◌+◌, ◌<◌, ◌≤◌};
+ghost use Rattle.std.specs.Prelude.{◌≡◌, ◌+◌, ◌<◌, ◌≤◌};
 ghost use Rattle.sets.specs.Sets.{digit};
-ghost use Rattle.meaning.specs.declared.refusal.Refusal.TheVariants.{Nothing};
 ghost use Rattle.stations.specs.Serving.{stops_at, sweeps, once_more, next_turn, first_of, looked_of, served_of};
 
-use super::Schedule;
+use super::{Phase, Schedule};
 use meaning::refusal::Refusal;
 use table::table_ok;
 
 // No turn comes any more.
-fn stops_at(why: Refusal, at: usize, count: usize, left: u64) -> Schedule
+fn stops_at(why: Option<Refusal>, at: usize, count: usize, left: u64) -> Schedule
     ensures { result ≡ stops_at why at count left }
 {
     Schedule {
-        going: false,
-        serving: true,
+        phase: Phase::Over(why),
         at,
         count,
         left,
         turns: 0,
         working: 0,
-        refusal: why,
     }
 }
 
@@ -34,14 +31,12 @@ fn sweep(count: usize, left: u64, working: u64) -> Schedule
         turns = 1;
     }
     Schedule {
-        going: true,
-        serving: true,
+        phase: Phase::Serving,
         at: 0,
         count,
         left,
         turns,
         working: 0,
-        refusal: Refusal::Nothing,
     }
 }
 
@@ -50,10 +45,10 @@ fn once_more(count: usize, left: u64, working: u64) -> Schedule
     ensures { result ≡ once_more count left working }
 {
     if left == 0 {
-        return stops_at(Refusal::Nothing, count, count, left);
+        return stops_at(None, count, count, left);
     }
     if working == 0 {
-        return stops_at(Refusal::Nothing, count, count, left);
+        return stops_at(None, count, count, left);
     }
     sweep(count, left, working)
 }
@@ -63,20 +58,18 @@ pub fn first_turn(table: &[u32], count: usize, allowance: u64) -> Schedule
     ensures { result ≡ first_of table.now count allowance }
 {
     if !table_ok(table) {
-        return stops_at(Refusal::Layout, 0, count, allowance);
+        return stops_at(Some(Refusal::Layout), 0, count, allowance);
     }
     if count == 0 || 64 < count {
-        return stops_at(Refusal::Stations, 0, count, allowance);
+        return stops_at(Some(Refusal::Stations), 0, count, allowance);
     }
     Schedule {
-        going: true,
-        serving: false,
+        phase: Phase::Looking,
         at: 0,
         count,
         left: allowance,
         turns: 0,
         working: 0,
-        refusal: Refusal::Nothing,
     }
 }
 
@@ -92,19 +85,17 @@ fn with_work(working: u64, works: bool) -> u64
 }
 
 // The next station's turn.
-fn next(c: Schedule, serving: bool, left: u64, working: u64) -> Schedule
+fn next(c: Schedule, phase: Phase, left: u64, working: u64) -> Schedule
     requires { c.at < c.count }
-    ensures { result ≡ next_turn c serving left working }
+    ensures { result ≡ next_turn c phase left working }
 {
     Schedule {
-        going: true,
-        serving,
+        phase,
         at: c.at + 1,
         count: c.count,
         left,
         turns: c.turns,
         working,
-        refusal: Refusal::Nothing,
     }
 }
 
@@ -114,11 +105,11 @@ pub fn looked(c: Schedule, well: bool, works: bool) -> Schedule
     ensures { result ≡ looked_of c well works }
 {
     if !well {
-        return stops_at(Refusal::Parts, c.at + 1, c.count, c.left);
+        return stops_at(Some(Refusal::Parts), c.at + 1, c.count, c.left);
     }
     let working = with_work(c.working, works);
     if c.at + 1 < c.count {
-        return next(c, false, c.left, working);
+        return next(c, Phase::Looking, c.left, working);
     }
     once_more(c.count, c.left, working)
 }
@@ -129,11 +120,11 @@ pub fn served(c: Schedule, left: u64, works: bool) -> Schedule
     ensures { result ≡ served_of c left works }
 {
     if left == 0 {
-        return stops_at(Refusal::Nothing, c.at + 1, c.count, left);
+        return stops_at(None, c.at + 1, c.count, left);
     }
     let working = with_work(c.working, works);
     if c.at + 1 < c.count {
-        return next(c, true, left, working);
+        return next(c, Phase::Serving, left, working);
     }
     once_more(c.count, left, working)
 }

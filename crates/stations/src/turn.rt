@@ -1,16 +1,17 @@
 // The turn of a station, by value: before any is served a look at its parts, then its turns.
 ghost use Rattle.std.specs.Prelude.{◌≡◌, true, false, ◌&&◌, ℕ, ◌+◌, ◌^◌, ◌<◌, ◌≤◌, min, length, get_or, drop};
 ghost use Rattle.sets.specs.Sets.{every};
-ghost use Rattle.meaning.specs.Refusal.{number_of};
+ghost use Rattle.meaning.specs.Refusal.{number_or_0};
 ghost use Rattle.meaning.specs.Table.{table_ok};
 ghost use Rattle.meaning.specs.Stations.{has_work};
 ghost use Rattle.recorder.specs.Timers.{Noted};
+ghost use Rattle.stations.specs.declared.Phase.TheVariants.{Looking};
 ghost use Rattle.stations.specs.Stations.{station_of};
-ghost use Rattle.stations.specs.Serving.{part_words, work_words, apart_from, parts_within, Ready, Looked, Given, Turned};
+ghost use Rattle.stations.specs.Serving.{part_words, work_words, apart_from, parts_within, is_looking, Ready, Looked, Given, Turned};
 
 use super::parts::{apart, parts_within, put_parts};
 use super::scheduling::{looked, served};
-use super::{PART_WORDS, Schedule, Station};
+use super::{PART_WORDS, Phase, Schedule, Station};
 use meaning::refusal::number;
 use recorder::notes::{put_notes, run_noted};
 use recorder::table_run::Ran;
@@ -65,7 +66,7 @@ fn look(
     inputs: &[u32],
     out: &[u32],
 ) -> Schedule
-    requires { Ready table.now inputs.now s c work.old out.now × (c.serving ≡ false) }
+    requires { Ready table.now inputs.now s c work.old out.now × (c.phase ≡ Looking) }
     ensures { Looked table.now inputs.now s c work.old out.now
         s result work.new out.now }
 {
@@ -80,14 +81,7 @@ fn look(
 fn ticks_at_once(turns: u64, left: u64, sets: u32) -> usize
     ensures { result ≡ min turns (min left sets) }
 {
-    let mut n = sets as u64;
-    if left < n {
-        n = left;
-    }
-    if turns < n {
-        n = turns;
-    }
-    n as usize
+    turns.min(left).min(u64::from(sets)) as usize
 }
 
 // A station after a run of its own.
@@ -96,20 +90,19 @@ fn after_run(s: Station, ran: Ran) -> Station
     ensures { result ≡ record {
       state = ran.state;
       position = s.position + ran.done.0;
-      mark = number_of ran.refusal;
+      mark = number_or_0 ran.refusal;
       in_start = s.in_start;
       in_length = s.in_length;
       out_start = s.out_start;
       out_length = s.out_length;
     } }
 {
-    let why = ran.refusal;
     let state = ran.state;
     let done = ran.done.0;
     Station {
         state,
         position: s.position + (done as u32),
-        mark: number(why),
+        mark: number(ran.refusal),
         in_start: s.in_start,
         in_length: s.in_length,
         out_start: s.out_start,
@@ -127,7 +120,7 @@ fn give_turns(
     out: &mut [u32],
 ) -> Turn
     requires { Ready table.now inputs.now s c work.now out.old
-        × (c.serving ≡ true)
+        × (is_looking c.phase ≡ false)
         × (has_work (station_of s) ≡ true) }
     ensures { Given table.now inputs.now s c work.now out.old
         result.station result.schedule work.now out.new }
@@ -160,7 +153,7 @@ fn give(
     inputs: &[u32],
     out: &mut [u32],
 ) -> Turn
-    requires { Ready table.now inputs.now s c work.now out.old × (c.serving ≡ true) }
+    requires { Ready table.now inputs.now s c work.now out.old × (is_looking c.phase ≡ false) }
     ensures { Given table.now inputs.now s c work.now out.old
         result.station result.schedule work.now out.new }
 {
@@ -187,12 +180,14 @@ pub fn take_turn(
     ensures { Turned table.now inputs.now s c work.old out.old
         result.station result.schedule work.new out.new }
 {
-    if c.serving {
-        return give(s, c, work, table, inputs, out);
-    }
-    let schedule = look(s, c, work, table, inputs, out);
-    Turn {
-        station: s,
-        schedule,
+    match c.phase {
+        Phase::Looking => {
+            let schedule = look(s, c, work, table, inputs, out);
+            Turn {
+                station: s,
+                schedule,
+            }
+        }
+        Phase::Serving | Phase::Over(_) => give(s, c, work, table, inputs, out),
     }
 }

@@ -1,7 +1,7 @@
 -- What the head and the pairs say once they have passed: every word that the code looks at is there. And a block's mask and timers, as they are read.
 -- Assumes nothing.
 use mathlib.Core.Path.{◌≡◌, refl, ap}
-use mathlib.Core.Bool.{and-true}
+use mathlib.Core.Bool.{Bool, and-true}
 use mathlib.Core.List.{List}
 use Prim.Native.Nat.{ℕ, suc, ◌+◌, ◌*◌, ◌^◌, ◌≤◌, ◌<◌}
 use native.Mathlib.Nat.{le_refl, le_trans, le_of_eq}
@@ -52,6 +52,10 @@ head_is w l o k t p b =
     (and-true (leb (4 + t_in w + 2 * b_in w) (length w)))
 
 -- ---- where blocks must begin
+
+-- block i begins where the one before ends
+abbrev pub begins : List ℕ → ℕ → Bool
+begins w i = eqb (offset_in w i) (end_before_in w i)
 
 pub end_first : (w : List ℕ) → end_before_in w 0 ≡ 4 + t_in w + 2 * b_in w
 unfolding end_before_in

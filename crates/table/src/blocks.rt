@@ -8,21 +8,18 @@ use super::words::{
     block_count, block_length, cell_count, event_count, offset, timer_delay, timers_at,
     transition_count,
 };
-use sets::transitions;
+use sets::set::Set;
 
 // The transitions with a delay.
 pub fn delayed(table: &[u32]) -> u64
     requires { T (table_head_ok table.now) }
     ensures { result ≡ delayed_in table.now }
 {
-    let count = transition_count(table);
     let mut r = 0u64;
-    let mut t = 0;
-    while t < count {
+    for t in 0..transition_count(table) {
         if timer_delay(table, t) != 0 {
-            r |= transitions::single(t);
+            r |= u64::single(t);
         }
-        t += 1;
     }
     r
 }
@@ -33,11 +30,10 @@ fn cells_ok(cells: &[u32], count: usize, blocks: u32) -> bool
     ensures { result ≡ every count (next_ok cells.now blocks) }
 {
     let mut ok = true;
-    let mut c = 0;
-    while c < count {
+    // Without leaving: a branch for each cell costs more.
+    for c in 0..count {
         let next = cells[6 * c];
         ok = ok & (0 < next) & (next < blocks);
-        c += 1;
     }
     ok
 }
@@ -69,8 +65,8 @@ fn block_head_ok(table: &[u32], with_delay: u64, b: usize) -> bool
         return false;
     }
     let timers = timers_at(table, at);
-    let a = transitions::size(timers);
-    if !mask_ok(table, b, at, timers) || 6 < a || transitions::minus(timers, with_delay) != 0 {
+    let a = timers.size();
+    if !mask_ok(table, b, at, timers) || 6 < a || timers.minus(with_delay) != 0 {
         return false;
     }
     size == 3 + 6 * cell_count(a, event_count(table))
@@ -105,16 +101,8 @@ pub fn block_heads_ok(table: &[u32]) -> bool
     requires { T (table_head_ok table.now) × T (table_pairs_ok table.now) }
     ensures { result ≡ every (b_in table.now) (block_head_ok table.now) }
 {
-    let count = block_count(table);
     let with_delay = delayed(table);
-    let mut b = 0;
-    while b < count {
-        if !block_head_ok(table, with_delay, b) {
-            return false;
-        }
-        b += 1;
-    }
-    true
+    (0..block_count(table)).all(|b| block_head_ok(table, with_delay, b))
 }
 
 // Every block is as it must be; all blocks stand in their places.
@@ -122,14 +110,6 @@ pub fn blocks_ok(table: &[u32]) -> bool
     requires { T (table_head_ok table.now) × T (table_pairs_ok table.now) }
     ensures { result ≡ every (b_in table.now) (block_ok table.now) }
 {
-    let count = block_count(table);
     let with_delay = delayed(table);
-    let mut b = 0;
-    while b < count {
-        if !block_ok(table, with_delay, b) {
-            return false;
-        }
-        b += 1;
-    }
-    true
+    (0..block_count(table)).all(|b| block_ok(table, with_delay, b))
 }

@@ -35,15 +35,7 @@ fn timers_ok(table: &[u32]) -> bool
     requires { T (table_head_ok table.now) }
     ensures { result ≡ every (t_in table.now) (timer_ok table.now) }
 {
-    let count = transition_count(table);
-    let mut t = 0;
-    while t < count {
-        if !timer_ok(table[4 + t]) {
-            return false;
-        }
-        t += 1;
-    }
-    true
+    (0..transition_count(table)).all(|t| timer_ok(table[4 + t]))
 }
 
 // Each block begins where the one before ends, and the last ends the table.
@@ -53,13 +45,11 @@ fn pairs_ok(table: &[u32]) -> bool
 {
     let count = block_count(table);
     let mut end = 4 + transition_count(table) + 2 * count;
-    let mut b = 0;
-    while b < count {
+    for b in 0..count {
         if offset(table, b) != end {
             return false;
         }
         end += block_length(table, b);
-        b += 1;
     }
     end == table.len()
 }
@@ -86,15 +76,7 @@ pub fn nexts_ok(table: &[u32]) -> bool
     requires { T (shape_ok table.now) }
     ensures { result ≡ nexts_ok table.now }
 {
-    let count = block_count(table);
-    let mut b = 0;
-    while b < count {
-        if !blocks::next_blocks_ok(table, b) {
-            return false;
-        }
-        b += 1;
-    }
-    true
+    (0..block_count(table)).all(|b| blocks::next_blocks_ok(table, b))
 }
 
 // The table's layout is sound; 15 if not. Any list of words is answered.

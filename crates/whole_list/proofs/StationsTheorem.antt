@@ -15,7 +15,7 @@ use Rattle.meaning.specs.Lists.{refused_if}
 use Rattle.meaning.specs.Run.{State, power_on, stops, output_short, Run, ran}
 use Rattle.meaning.specs.Table.{k_in, table_ok}
 use Rattle.meaning.specs.TableRun.{table_state_ok, table_step, table_ticks, table_run}
-use Rattle.meaning.specs.Refusal.{number_of}
+use Rattle.meaning.specs.Refusal.{number_or_0}
 use Rattle.meaning.specs.WholeList.{runs_from, Served}
 use Rattle.meaning.specs.Acceptance.{Accepted, AcceptedServes, TableStateStays}
 use Rattle.meaning.specs.Stations.{Station, blank, has_work, StationsRun, call_refused, serve_stations}
@@ -46,7 +46,7 @@ call_is : (c : StationsCall) → answered c ≡ meant c
 unfolding table_served stations_lent inputs_got out_lent allowance_got stations_left out_left
 call_is c = serve_tells c.lifetimes c.passed c.returned c.left c.contract
 
-refusal_is : (c : StationsCall) → number_of c.returned.refusal ≡ (meant c).refusal
+refusal_is : (c : StationsCall) → number_or_0 c.returned.refusal ≡ (meant c).refusal
 refusal_is c = ap (λ (r : StationsRun). r.refusal) (call_is c)
 
 pub fair_calls : FairCalls
@@ -178,14 +178,14 @@ record Matches (w : List ℕ) (v : StationIn) : Type 0 where
   state : (station_left v).state ≡ (table_run w (station_lent v).state (call_alone v).inputs (call_alone v).out).state
   out : (run_alone v).out ≡ (table_run w (station_lent v).state (call_alone v).inputs (call_alone v).out).out
 
-accepted_matches : (v : StationIn) → number_of v.call.returned.refusal ≡ 0 → Matches (table_served v.call) v
+accepted_matches : (v : StationIn) → number_or_0 v.call.returned.refusal ≡ 0 → Matches (table_served v.call) v
 unfolding FairCalls station_lent station_left ticks_served sets_rest words_lent words_left call_alone run_alone
 accepted_matches v e =
     let al = (fair_calls v.call e).alone v.number v.listed in
     record { done = al.done; state = al.state; out = al.words }
 
 -- a refused call serves no tick
-refused_matches : (v : StationIn) → (number_of v.call.returned.refusal ≡ 0 → ⊥) → Matches (table_served v.call) v
+refused_matches : (v : StationIn) → (number_or_0 v.call.returned.refusal ≡ 0 → ⊥) → Matches (table_served v.call) v
 unfolding RefusedCalls station_lent station_left ticks_served words_lent words_left call_alone run_alone
 refused_matches v n =
     let w = table_served v.call in
@@ -207,7 +207,7 @@ matches : (v : StationIn) → Matches (table_served v.call) v
 matches v = go (eqb refusal 0) refl
   where
     refusal : ℕ
-    refusal = number_of v.call.returned.refusal
+    refusal = number_or_0 v.call.returned.refusal
 
     go : (b : Bool) → eqb refusal 0 ≡ b → Matches (table_served v.call) v
     go true e = accepted_matches v (eqb-true refusal 0 e)

@@ -8,7 +8,7 @@ use Rattle.meaning.specs.Sheet.{t_of}
 use Rattle.meaning.specs.Run.{State, power_on, Run}
 use Rattle.meaning.specs.TableRun.{table_run}
 use Rattle.meaning.specs.Compile.{Compiled, compile}
-use Rattle.meaning.specs.Refusal.{number_of}
+use Rattle.meaning.specs.Refusal.{err_or_0}
 use Rattle.meaning.specs.WholeList.{runs_from, Served}
 use Rattle.meaning.specs.Acceptance.{accept_refusal, Accepted, AcceptedServes, CompiledAccepted}
 use Rattle.meaning.specs.NoIdleArrows.{TakenInTable, EveryArrowTaken}
@@ -50,7 +50,7 @@ calls_served s t accepted cs chained =
 -- one call of compile that refused nothing: what is true of the words that the definition leaves is true of the table
 compile_leaves : (P : List ℕ → List ℕ → Type 0)
     → ((s table work : List ℕ) → (compile s table work).refusal ≡ 0 → P s (take (compile s table work).table_length (compile s table work).table))
-    → (c : CompileCall) → number_of c.returned.refusal ≡ 0 → P (sheet_words c) (table_words c)
+    → (c : CompileCall) → err_or_0 c.returned.table_length ≡ 0 → P (sheet_words c) (table_words c)
 unfolding sheet_words table_words
 compile_leaves P h c passed =
     let sheet = c.lent.0.now in
@@ -58,12 +58,12 @@ compile_leaves P h c passed =
     subst (λ (x : Compiled). P sheet (take x.table_length x.table)) (sym told)
     (h sheet c.lent.1.0.now c.lent.1.1.0.now (ap (λ (x : Compiled). x.refusal) (sym told) ∙ passed))
 
-pub compile_accepted : (c : CompileCall) → number_of c.returned.refusal ≡ 0 → Accepted (sheet_words c) (table_words c)
+pub compile_accepted : (c : CompileCall) → err_or_0 c.returned.table_length ≡ 0 → Accepted (sheet_words c) (table_words c)
 unfolding CompiledAccepted
 compile_accepted = compile_leaves Accepted compiled_accepted_lem
 
 -- one check of a table
-pub check_is : (c : AcceptCall) → number_of c.returned ≡ accept_refusal (sheet_checked c) (table_checked c)
+pub check_is : (c : AcceptCall) → err_or_0 c.returned ≡ accept_refusal (sheet_checked c) (table_checked c)
 unfolding sheet_checked table_checked
 check_is c = accept_tells c.lifetimes c.lent c.returned c.left c.contract
 

@@ -2,11 +2,11 @@
 -- `recorder::table_run::run` return and of the words that they leave. Of each call its contract is supposed, as the source states it
 -- (`Learnt`: what a caller learns from a call's `ensures`), and nothing else, so that a contract that says less would not give the
 -- theorem. Assumes nothing.
-use Rattle.std.specs.Prelude.{◌≡◌, List, [], ◌∷◌, map, ℕ, ◌<◌, take}
+use Rattle.std.specs.Prelude.{Result, ◌≡◌, List, [], ◌∷◌, map, ℕ, ◌<◌, take}
 use contract.Lifetimes.{Lfts}
 use denote.Triple.Clauses.{AtExit}
 use borrow.Fn.Kinds.{Dens, ended_of}
-use Rattle.meaning.specs.Refusal.{number_of}
+use Rattle.meaning.specs.Refusal.{err_or_0}
 use Rattle.meaning.specs.declared.refusal.Refusal.{Refusal}
 use Rattle.meaning.specs.Sheet.{t_of}
 use Rattle.meaning.specs.Run.{State, power_on, Run}
@@ -14,6 +14,7 @@ use Rattle.meaning.specs.WholeList.{Call, Served}
 use Rattle.meaning.specs.NoIdleArrows.{TakenInTable}
 use Rattle.run.specs.States.{state_of}
 use Rattle.compiler.specs.declared.Compiled.{Compiled}
+use Rattle.compiler.specs.Outcome.{length_in}
 use Rattle.compiler.proofs.compile.Kinds as compile_kinds
 use Rattle.compiler.proofs.compile.Reads as compile_contract
 use Rattle.acceptance.proofs.accept.Kinds as accept_kinds
@@ -40,13 +41,13 @@ module _ (c : CompileCall) where
 
   -- "the words left there, as many as the length returned"
   unfoldable pub table_words : List ℕ
-  table_words = take c.returned.table_length c.left.1.0.now
+  table_words = take (length_in c.returned.table_length) c.left.1.0.now
 
 -- a call of `accept(sheet, table)`, whose contract holds
 pub record AcceptCall : Type 0 where
   pub lifetimes : Lfts 2
   pub lent : Dens lifetimes accept_kinds.ps
-  pub returned : Refusal
+  pub returned : Result (Unit {0}) Refusal
   pub left : AtExit (ended_of 2 accept_kinds.ps accept_kinds.r) lifetimes
   pub contract : accept_contract.Learnt lifetimes lent returned left
 
@@ -89,7 +90,7 @@ OneAfterOther t q (c ∷ cs) = (table_got c ≡ t) × (state_got c ≡ q) × One
 -- fresh state: every conclusion of demand 3
 unfoldable pub Demand3 : Type 0
 Demand3 =
-    (c : CompileCall) → number_of c.returned.refusal ≡ 0
+    (c : CompileCall) → err_or_0 c.returned.table_length ≡ 0
     → (cs : List RunCall) → OneAfterOther (table_words c) power_on cs
     → Served (sheet_words c) (table_words c) (map call_of cs) (map run_of cs)
 
@@ -97,19 +98,19 @@ Demand3 =
 -- conclusion of demand 3
 unfoldable pub AcceptedDemand3 : Type 0
 AcceptedDemand3 =
-    (c : AcceptCall) → number_of c.returned ≡ 0
+    (c : AcceptCall) → err_or_0 c.returned ≡ 0
     → (cs : List RunCall) → OneAfterOther (table_checked c) power_on cs
     → Served (sheet_checked c) (table_checked c) (map call_of cs) (map run_of cs)
 
 -- any compile that refused nothing, and any check of the table that it left against its sheet: nothing is refused
 unfoldable pub CompileIsAccepted : Type 0
 CompileIsAccepted =
-    (c : CompileCall) → number_of c.returned.refusal ≡ 0
+    (c : CompileCall) → err_or_0 c.returned.table_length ≡ 0
     → (a : AcceptCall) → sheet_checked a ≡ sheet_words c → table_checked a ≡ table_words c
-    → number_of a.returned ≡ 0
+    → err_or_0 a.returned ≡ 0
 
 -- any compile that refused nothing: each transition of its sheet stands in the taken words of some cell of the table that it left
 unfoldable pub CompileTakesEvery : Type 0
 CompileTakesEvery =
-    (c : CompileCall) → number_of c.returned.refusal ≡ 0
+    (c : CompileCall) → err_or_0 c.returned.table_length ≡ 0
     → (t : ℕ) → t < t_of (sheet_words c) → TakenInTable (table_words c) t

@@ -5,7 +5,7 @@ use Rattle.std.specs.Prelude.{◌≡◌, true, false, List, [], ◌∷◌, map, 
 use contract.Lifetimes.{Lfts}
 use denote.Triple.Clauses.{AtExit}
 use borrow.Fn.World.{ArgsD}
-use Rattle.meaning.specs.Refusal.{number_of}
+use Rattle.meaning.specs.Refusal.{err_or_0, number_or_0}
 use Rattle.meaning.specs.Run.{State, power_on, Run}
 use Rattle.meaning.specs.WholeList.{Call, Served}
 use Rattle.meaning.specs.Stations.{Station, blank, has_work, StationsRun}
@@ -52,7 +52,7 @@ module _ (c : StationsCall) where
   abbrev pub answered : StationsRun
   answered =
       record {
-        refusal = number_of c.returned.refusal;
+        refusal = number_or_0 c.returned.refusal;
         spent = c.returned.spent;
         stations = stations_left;
         out = out_left;
@@ -65,13 +65,13 @@ module _ (c : StationsCall) where
 -- what a mark says, what each station gets at the least
 unfoldable pub FairCalls : Type 0
 FairCalls =
-    (c : StationsCall) → number_of c.returned.refusal ≡ 0
+    (c : StationsCall) → number_or_0 c.returned.refusal ≡ 0
     → Fair (table_served c) (stations_lent c) (inputs_got c) (out_lent c) (allowance_got c) (answered c)
 
 -- any call that refused something, 15, 18 or 19: it "changes nothing" and spends nothing
 unfoldable pub RefusedCalls : Type 0
 RefusedCalls =
-    (c : StationsCall) → (number_of c.returned.refusal ≡ 0 → ⊥)
+    (c : StationsCall) → (number_or_0 c.returned.refusal ≡ 0 → ⊥)
     → (stations_left c ≡ stations_lent c) × (out_left c ≡ out_lent c) × (c.returned.spent ≡ 0)
 
 -- ---- a station of a call
@@ -122,8 +122,8 @@ module _ (v : StationIn) where
 -- stations of two calls that refused nothing, on the same table: the same state, position, rest of the list and words
 module _ (v v₂ : StationIn) where
   pub record AlikeStations : Type 0 where
-    pub unrefused : number_of v.call.returned.refusal ≡ 0
-    pub unrefused₂ : number_of v₂.call.returned.refusal ≡ 0
+    pub unrefused : number_or_0 v.call.returned.refusal ≡ 0
+    pub unrefused₂ : number_or_0 v₂.call.returned.refusal ≡ 0
     pub table : table_served v.call ≡ table_served v₂.call
     pub state : (station_lent v).state ≡ (station_lent v₂).state
     pub position : (station_lent v).position ≡ (station_lent v₂).position
@@ -159,13 +159,13 @@ StateHandedOn t q (v ∷ vs) =
 -- after call
 unfoldable pub StationDemand3 : Type 0
 StationDemand3 =
-    (c : CompileCall) → number_of c.returned.refusal ≡ 0
+    (c : CompileCall) → err_or_0 c.returned.table_length ≡ 0
     → (vs : List StationIn) → StateHandedOn (table_words c) power_on vs
     → Served (sheet_words c) (table_words c) (map call_alone vs) (map run_alone vs)
 
 -- and of any table that a check accepted
 unfoldable pub AcceptedStationDemand3 : Type 0
 AcceptedStationDemand3 =
-    (c : AcceptCall) → number_of c.returned ≡ 0
+    (c : AcceptCall) → err_or_0 c.returned ≡ 0
     → (vs : List StationIn) → StateHandedOn (table_checked c) power_on vs
     → Served (sheet_checked c) (table_checked c) (map call_alone vs) (map run_alone vs)

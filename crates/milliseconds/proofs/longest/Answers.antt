@@ -1,24 +1,16 @@
--- `milliseconds::longest` meets its contract: the longest so far stays the longest, with one delay more.
-use mathlib.Core.Path.{◌≡◌}
-use mathlib.Core.List.{List}
-use mathlib.Core.Logic.{⊎_elim}
-use Prim.Native.Nat.{ℕ, ◌+◌, max}
-use native.Mathlib.Omega.{arith}
-use lib.ListN.{get_or}
-use Rattle.sets.proofs.Tests.{below_or_not}
-use Rattle.milliseconds.proofs.ConversionLaws.{Longest, longest_start, longest_more, longest_same}
+-- `milliseconds::longest` meets its contract. Assumes nothing.
+use Rattle.std.proofs.Common.{◌≡◌, sym, max, ap, ◌∙◌}
+use Rattle.std.specs.List.{reduce}
+use Rattle.std.specs.Option.{unwrap_or}
+use Rattle.std.proofs.lemmas.Iterator.{YieldsList-from_slice}
+use Rattle.std.proofs.lemmas.Iterator.Adapters.{option_map_id}
+use Rattle.std.proofs.lemmas.Iterator.Consumers.{max_from_yields_List, YieldsList-from_copied}
+use lib.Dec.{ltb}
+use Rattle.milliseconds.proofs.ConversionLaws.{longest_is, longest_or_0}
 use Rattle.milliseconds.proofs.longest.Goals as goal
 
--- one delay more: the larger of the two is the longest
-longest_next : (l : List ℕ) (i most next : ℕ) → Longest l i most → next ≡ max most (get_or l i 0) → Longest l (i + 1) next
-longest_next l i most next h e =
-    ⊎_elim (λ k. longest_more l i most next h (omega arith) k) (λ k. longest_same l i most next h (omega arith) k)
-    (below_or_not most (get_or l i 0))
-
-pub loop-i-init : goal.loop-i-init
-loop-i-init c = (omega arith, longest_start c.args.delays.now)
-
-pub loop-i-preserved : goal.loop-i-preserved
-loop-i-preserved c =
-    let l = c.loop-i in
-    (omega arith, longest_next c.args.delays.now l.i l.most _ l.invariant.1 (grind arith))
+pub returns : goal.returns
+returns c n =
+    let l = c.args.delays.now in
+    let e : c.max.result ≡ reduce max l = sym (option_map_id _) ∙ max_from_yields_List c.copied.result c.max.result c.max.ensures.ran (YieldsList-from_copied (YieldsList-from_slice l (cc))) in
+    longest_is l n ∙ ap (ltb n) (sym (c.unwrap_or.ensures ∙ ap (λ o. unwrap_or o 0) e ∙ longest_or_0 l))

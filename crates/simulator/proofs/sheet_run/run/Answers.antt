@@ -6,6 +6,7 @@ use Prim.Native.Nat.{ℕ, ◌*◌, ◌≤◌}
 use native.Mathlib.Omega.{arith}
 use native.Mathlib.Decide.{dec_le}
 use lib.ListN.{length}
+use Rattle.meaning.proofs.RefusalLaws.{number_not_0}
 use Rattle.meaning.specs.Alternatives.{numbers_short}
 use Rattle.meaning.specs.Run.{output_short}
 use Rattle.meaning.specs.SheetRun.{sheet_run}
@@ -26,12 +27,12 @@ short_either inputs out numbers none = by_cases (dec_le (5 * length inputs) (len
     by_cases (yes a) (yes b) = absurd (none a b)
 
 -- 1 to 6
-pub returns-then-number-ne0 : goal.returns-then-number-ne0
+pub returns-in-Err : goal.returns-in-Err
 unfolding sheet_run
-returns-then-number-ne0 c =
+returns-in-Err c =
     answered _ _ _ _ _
     (written_none _ _ _ _ (c.stops.ensures.0 _) refl
-    (stopped_refused _ _ _ _ _ _ _ _ c.check-why.ensures (λ e. c.if-number-ne0.true (c.number.ensures ∙ e))))
+    (stopped_refused _ _ _ _ _ _ _ _ c.in-Err.ensures (number_not_0 _)))
     (omega (arith, c.stops.ensures.1))
 
 -- 14

@@ -1,0 +1,6 @@
+-- `sets::modes::U32Set::has` meets its contract: the bit at m, moved to place 0, is the test of membership. Assumes nothing.
+use Rattle.sets.proofs.Membership.{shift_test}
+use Rattle.sets.proofs.modes.U32Set.has.Goals as goal
+
+pub returns : goal.returns
+returns c = shift_test c.args.self c.args.m

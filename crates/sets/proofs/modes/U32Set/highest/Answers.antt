@@ -1,0 +1,7 @@
+-- `sets::modes::U32Set::highest` meets its contract: the zeros above the highest set bit, that bit and those below it make the width. Assumes nothing.
+use Rattle.std.proofs.Common.{arith}
+use Rattle.sets.proofs.Highest.{leading_zeros_highest}
+use Rattle.sets.proofs.modes.U32Set.highest.Goals as goal
+
+pub returns : goal.returns
+returns c = omega (arith, leading_zeros_highest 32 c.args.self c.ranges.self.fits c.requires)

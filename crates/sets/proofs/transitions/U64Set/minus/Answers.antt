@@ -1,0 +1,6 @@
+-- `sets::transitions::U64Set::minus` meets its contract: what is in a set and in the complement of the other is in it and not in the other. Assumes nothing.
+use Rattle.sets.proofs.Membership.{and-not}
+use Rattle.sets.proofs.transitions.U64Set.minus.Goals as goal
+
+pub returns : goal.returns
+returns c = and-not 64 c.ranges.self.fits c.ranges.other.fits

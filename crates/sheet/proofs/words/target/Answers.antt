@@ -1,0 +1,18 @@
+-- `sheet::words::target` meets its contract. Assumes nothing.
+use Rattle.std.proofs.Common.{arith}
+use Rattle.meaning.specs.Sheet.{word, target}
+use Rattle.sheet.proofs.SheetTestLaws.{placed}
+use Rattle.sheet.proofs.words.target.Goals as goal
+
+pub overflow_add-offset : goal.overflow_add-offset
+overflow_add-offset c = omega (arith, placed c.requires)
+
+pub offset_bounds-sheet-offset : goal.offset_bounds-sheet-offset
+offset_bounds-sheet-offset c = omega (arith, placed c.requires)
+
+pub bounds-sheet-offset : goal.bounds-sheet-offset
+bounds-sheet-offset c = omega (arith, placed c.requires)
+
+pub returns : goal.returns
+unfolding target word
+returns c = rw c.offset.ensures at c.wide.ensures
