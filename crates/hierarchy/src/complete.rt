@@ -69,21 +69,29 @@ fn parallel_below(sheet: &[u32], children: &[u32; 32], x: u32, m: usize) -> u32
     r
 }
 
+// Mode m with the modes that completing it, for the set x, puts below it.
+pub fn completed(sheet: &[u32], children: &[u32; 32], x: u32, m: usize) -> u32
+    requires { (sheet_refusal sheet.now ≡ 0) × (m < n_of sheet.now) × Children sheet.now children.now }
+    ensures { result ≡ branch sheet.now x m }
+{
+    let r = u32::single(m);
+    if children[m] == 0 {
+        return r;
+    }
+    if is_serial(sheet, m) {
+        r | serial_below(sheet, children, x, m)
+    } else {
+        r | parallel_below(sheet, children, x, m)
+    }
+}
+
 impl Tree<'_> {
-    // Mode m with the modes that completing it, for the set x, puts below it.
+    // The same, of the tree.
     pub fn completed(&self, x: u32, m: usize) -> u32
         requires { m < n_of self.now.sheet.now }
         ensures { result ≡ branch self.now.sheet.now x m }
     {
-        let r = u32::single(m);
-        if self.children[m] == 0 {
-            return r;
-        }
-        if is_serial(self.sheet, m) {
-            r | serial_below(self.sheet, self.children, x, m)
-        } else {
-            r | parallel_below(self.sheet, self.children, x, m)
-        }
+        completed(self.sheet, self.children, x, m)
     }
 
     // Power-on's modes: the root, completed.
