@@ -84,7 +84,7 @@ module _ (w notes : List ℕ) {delays from a b : List ℕ} {s : ℕ} (long : 97 
   from_room : 64 + length from ≤ length a
   from_room = omega (arith, from_many, delays_length)
 
-  front_length : length (set b 96 s) ≡ length notes
+  pub front_length : length (set b 96 s) ≡ length notes
   front_length = length-set b 96 s ∙ ap length be ∙ length_over a 64 from from_room ∙ delays_length
 
   delay_put : (t : ℕ) → t < 64 → get_or b t 0 ≡ timer_delay_in w t

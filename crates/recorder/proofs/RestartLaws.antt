@@ -3,7 +3,7 @@ use mathlib.Core.Path.{◌≡◌, refl, sym, ap, ap₂, ◌∙◌, subst}
 use mathlib.Core.Bool.{Bool, true, false, not, ◌&&◌, cond, and-true, not-not}
 use mathlib.Core.List.{List}
 use Prim.Native.Nat.{ℕ, ◌-◌, ◌^◌, ◌<◌}
-use native.Mathlib.Nat.{pos_of_ne-zero, lt_of_lt_of_le, lt_of_le_of_lt}
+use native.Mathlib.Nat.{pos_of_ne-zero, lt_of_lt_of_le, lt_of_le_of_lt, pow-le-pow_right}
 use native.Mathlib.Omega.{arith}
 use lib.Dec.{T, eqb, ltb, eqb→eq}
 use lib.Bits.{and_self}
@@ -12,7 +12,7 @@ use borrow.Author.Tests.{eq-eqb, ne_eqb, lt-ltb}
 use Rattle.sets.specs.Sets.{has, meet, minus, set_of, those, some_in}
 use Rattle.sets.proofs.Tests.{is_true, is_false, of_true, of_false, bool_ext}
 use Rattle.sets.proofs.Facts.{set_of_i, those_e, those_i, some_in_e, some_in_i}
-use Rattle.sets.proofs.Membership.{has_none, has_meet, has-minus, has-set_of, has-those, those-lt, minus-le, ext}
+use Rattle.sets.proofs.Membership.{has_none, has_meet, has-minus, has-set_of, has-those, set_of-lt, those-lt, minus-le, ext}
 use Rattle.sets.proofs.Members.{empty}
 use Rattle.meaning.specs.Lists.{row_from}
 use Rattle.meaning.specs.Run.{State, reading, due_timers, next_state}
@@ -47,6 +47,14 @@ module _ (w : List ℕ) (h : T (table_ok w)) where
   module _ (from : List ℕ) (timed : ℕ) (fe : from ≡ row_from 0 32 (timers_from w)) (te : timed ≡ set_of 32 (λ m. not (eqb (get_or from m 0) 0))) where
     from_at_lem : (m : ℕ) → m < 32 → get_or from m 0 ≡ timers_from w m
     from_at_lem m l = ap (λ (r : List ℕ). get_or r m 0) fe ∙ row_at 32 (timers_from w) m l
+
+    -- they fit a word
+    pub from_word : (m : ℕ) → m < 32 → get_or from m 0 < 2 ^ 64
+    unfolding timers_from timers_below
+    from_word m l =
+        let p : ℕ → Bool = λ t. ltb 0 (delay_in w t) && eqb (source_in w t) m in
+        subst (λ (x : ℕ). x < 2 ^ 64) (sym (from_at_lem m l))
+        (lt_of_lt_of_le (set_of-lt (t_in w) p) (pow-le-pow_right (omega arith) {i = t_in w} (t_le w (shape_of w h))))
 
     module _ (entered : ℕ) where
       -- the timers whose source was entered, as the code finds them

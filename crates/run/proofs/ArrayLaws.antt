@@ -2,11 +2,12 @@
 use mathlib.Core.Path.{◌≡◌, sym, ◌∙◌}
 use mathlib.Core.Bool.{cond}
 use mathlib.Core.List.{List}
-use Prim.Native.Nat.{ℕ, ◌+◌, ◌<◌}
+use Prim.Native.Nat.{ℕ, ◌+◌, ◌≤◌, ◌<◌}
 use native.Mathlib.Decide.{ℕ_discrete}
+use native.Mathlib.Numerals.{add-one}
 use native.Mathlib.Omega.{arith}
-use lib.ListN.{length, get_or, set, replicate, length-set, length-replicate, get_or-replicate}
-use lib.Seq.{get_or-set_same, get_or-set_other}
+use lib.ListN.{length, get_or, take, set, replicate, length-set, length-replicate, get_or-replicate}
+use lib.Seq.{take_all, take-suc, take-suc-set, get_or-set_same, get_or-set_other}
 use Rattle.sets.specs.Sets.{has}
 use Rattle.sets.proofs.Membership.{has_none}
 use Rattle.sets.proofs.Members.{Turn, without_it, without_other}
@@ -38,6 +39,14 @@ words_turn r f t l e j k = at (ℕ_discrete j t)
     at : Dec (j ≡ t) → get_or (set r t (f t)) j 0 ≡ f j
     at (yes p) = rw p (get_or-set_same r t (f t) 0 l)
     at (no p) = get_or-set_other r t j (f t) 0 p ∙ e j (omega arith)
+
+-- ---- a list copied word by word
+
+pub copy_turn : (r l : List ℕ) (t : ℕ) → t < length r → t < length l → take t r ≡ take t l → take (t + 1) (set r t (get_or l t 0)) ≡ take (t + 1) l
+copy_turn r l t h k e = rw (add-one, take-suc-set r t (get_or l t 0) h, take-suc l t 0 k, e)
+
+pub copy_done : (r l : List ℕ) (t : ℕ) → length r ≤ t → length l ≤ t → take t r ≡ take t l → r ≡ l
+copy_done r l t h k e = sym (take_all t r h) ∙ e ∙ take_all t l k
 
 -- ---- a row with words by a rule at the members of a set
 

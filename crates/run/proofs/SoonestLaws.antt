@@ -21,6 +21,9 @@ module _ (timers : ℕ) (ends : List ℕ) where
     pub fits : rest < 2 ^ 64
     pub bound : (t : ℕ) → T (has timers t) → T (has rest t) ⊎ (soon ≤ get_or ends t 0)
 
+  pub soonest_start : {soon : ℕ} → timers < 2 ^ 64 → Soonest soon timers
+  soonest_start l = record { fits = l; bound = λ t h. inl h }
+
   pub soonest_turn : {soon rest t rest' soon' : ℕ} → Soonest soon rest → Turn 64 rest t rest' → soon' ≤ soon → soon' ≤ get_or ends t 0 → Soonest soon' rest'
   soonest_turn {soon} {rest} {t} {rest'} {soon'} c u n h = record { fits = u.fits; bound = λ v k. on v (ℕ_discrete v t) (c.bound v k) }
     where

@@ -1,15 +1,22 @@
 -- A state as 97 lent words, put part by part. Assumes nothing.
 use mathlib.Core.Path.{◌≡◌, refl, sym, ap, ap₂, ◌∙◌}
 use mathlib.Core.List.{List, [], ◌∷◌, ◌++◌}
-use Prim.Native.Nat.{ℕ, ◌≤◌}
+use Prim.Native.Nat.{ℕ, ◌+◌, ◌≤◌, ◌<◌}
 use native.Mathlib.Omega.{arith}
-use lib.ListN.{length, drop, set}
-use lib.Seq.{take_all}
+use lib.ListN.{length, get_or, take, drop, set, length-drop}
+use lib.Seq.{take_all, get_or-drop}
 use borrow.Rule.Slice.PartMut.{put_mid}
 use Rattle.std.proofs.lemmas.Slice.{put_mid-paste}
 use Rattle.rows.specs.Over.{over}
 use Rattle.rows.proofs.OverLaws.{over_sets, over_more, over_front}
 use Rattle.meaning.specs.Lists.{overwritten}
+use Rattle.run.proofs.ArrayLaws.{copy_turn}
+
+-- words copied from a place on
+pub copied_turn : (r words : List ℕ) (at t : ℕ) → t < length r → at + t < length words → take t r ≡ take t (drop at words)
+    → take (t + 1) (set r t (get_or words (at + t) 0)) ≡ take (t + 1) (drop at words)
+copied_turn r words at t h k e =
+    rw (← get_or-drop at words t 0) (copy_turn r (drop at words) t h (omega (arith, length-drop at words)) e)
 
 -- values copied to a place
 pub put_over : (words : List ℕ) (at : ℕ) (values : List ℕ) (k : ℕ) → length values ≡ k → put_mid at k words values ≡ over words at values

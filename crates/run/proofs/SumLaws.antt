@@ -33,6 +33,12 @@ unfolding sum_to
 sum_list [] = refl
 sum_list (x ∷ xs) = sum_by-cons (λ n. n) x xs ∙ ap (λ (n : ℕ). x + n) (sum_list xs) ∙ sum_front (length xs) (λ i. get_or (x ∷ xs) i 0)
 
+-- of words
+pub sum-le : (f : ℕ → ℕ) (n : ℕ) → ((i : ℕ) → i < n → f i < 2 ^ 32) → sum_to n f ≤ n * 2 ^ 32
+unfolding sum_to
+sum-le f zero h = zero-le
+sum-le f (suc n) h = omega (arith, sum-le f n (λ i l. h i (omega arith)), h n (le_refl (suc n)))
+
 sum_same : (n : ℕ) (f g : ℕ → ℕ) → ((i : ℕ) → i < n → f i ≡ g i) → sum_to n f ≡ sum_to n g
 unfolding sum_to
 sum_same zero f g e = refl

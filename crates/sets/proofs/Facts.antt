@@ -197,6 +197,11 @@ from_mono (suc w) k a b f =
     prepend_mono (has a k) (has b k) k (members_from (suc k) w a) (members_from (suc k) w b) (f k (le_refl k) (omega arith))
     (from_mono w (suc k) a b (λ i p q. f i (omega arith) (omega arith)))
 
+-- a larger set has no fewer members, and more where it has one more
+pub size_mono : (w a b : ℕ) → ((i : ℕ) → i < w → T (has a i) → T (has b i)) → size w a ≤ size w b
+unfolding size members
+size_mono w a b f = from_mono w 0 a b (λ i p q. f i (omega arith))
+
 prepend_more : (a b : Bool) (i : ℕ) (l m : List ℕ) → (T a → ⊥) → T b → length l ≤ length m → length (prepend a i l) < length (prepend b i m)
 unfolding prepend
 prepend_more true b i l m f g h = absurd (f tt)

@@ -10,12 +10,12 @@ use native.Mathlib.Numerals.{add-one}
 use native.Mathlib.Decide.{ℕ_discrete}
 use native.Mathlib.Omega.{arith}
 use lib.Bits.{or_zero_r}
-use lib.Dec.{eqb, ltb}
+use lib.Dec.{eqb, ltb, ltb→lt}
 use lib.ListN.{length, get_or, set, replicate}
 use lib.Seq.{get_or-set_same, get_or-set_other}
 use borrow.Author.Tests.{eq-eqb, ne_eqb, lt-ltb, le-ltb, not-true, not-false}
 use Rattle.sets.specs.Sets.{has, union, single, digit, set_of, some, every}
-use Rattle.sets.proofs.Tests.{is_true, is_false, of_true, of_false, below_or_not}
+use Rattle.sets.proofs.Tests.{is_true, is_false, of_true, of_false, and_r, below_or_not}
 use Rattle.sets.proofs.Membership.{set_of-add, set_of_skip}
 use Rattle.sets.proofs.Facts.{some_i, every_e}
 
@@ -109,6 +109,10 @@ module _ (a b f : Bool) where
 
   pub and_off : a ≡ false → f ≡ a → f ≡ (a && b)
   and_off h k = rw h (k ∙ h)
+
+-- what its last test says where all passed
+pub and_last : (a f : Bool) (i n : ℕ) → f ≡ (a && ltb i n) → f ≡ true → i < n
+and_last a f i n h k = ltb→lt i n (and_r a (ltb i n) (of_true (sym h ∙ k)))
 
 -- ---- a list of zeros
 pub get_or_zeros : (n i : ℕ) → get_or {A = ℕ} (replicate n 0) i 0 ≡ 0

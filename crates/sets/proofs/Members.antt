@@ -3,15 +3,16 @@ use mathlib.Core.Path.{◌≡◌, refl, sym, ap, ap₂, ◌∙◌, subst}
 use mathlib.Core.Bool.{Bool, true, false, not, ◌&&◌, and-true, and-false}
 use mathlib.Core.List.{List, [], ◌∷◌}
 use mathlib.Core.Logic.{⊎_elim}
-use Prim.Native.Nat.{ℕ, zero, suc, ◌+◌, ◌-◌, ◌/◌, ◌%◌, ◌^◌, ◌≤◌, ◌<◌, suc-le-suc}
+use Prim.Native.Nat.{ℕ, zero, suc, ◌+◌, ◌-◌, ◌/◌, ◌%◌, ◌^◌, ◌≤◌, ◌<◌, zero-le, suc-le-suc}
 use native.Mathlib.Nat.{mod-lt, zero-lt-suc, not-suc-le-zero, le_of_suc-le-suc, le_refl, lt_of_le_of_lt, lt_trans, pos_of_ne-zero, eq-zero-or-pos, pow-suc, add-zero, zero-add}
+use native.Mathlib.Numerals.{add-one}
 use native.Mathlib.Decide.{ℕ_discrete}
 use native.Mathlib.Omega.{arith}
 use lib.Dec.{eqb}
 use lib.Arith.{lt-one}
 use lib.Pow.{pow_pos}
 use lib.Bits.{bit_and, and_step, and_le_l, and_le_r, and_self}
-use lib.ListN.{length}
+use lib.ListN.{length, drop, get_or}
 use lib.Count.{ones, ones_step, count_trailing_zeros, trailing_of_zero, under}
 use borrow.Author.Tests.{eq-eqb, ne_eqb}
 use Rattle.sets.specs.Sets.{has, meet, minus, single, members, members_from, prepend, size, lowest}
@@ -246,3 +247,27 @@ fold_turn f z u = ap (fold f z) (sym (members-turn u))
 pub fold_done : {A : Type 0} (f : A → ℕ → A) (z : A) (w s : ℕ) → s ≡ 0 → fold f z (members w s) ≡ z
 unfolding fold
 fold_done f z w s e = ap (λ (x : ℕ). fold f z (members w x)) e ∙ ap (fold f z) (members_none w)
+
+-- ---- the members by their number: a loop that counts its turns by i keeps `drop i (members w all) ≡ members w s`
+
+drop_parts : (i : ℕ) (l : List ℕ) (t : ℕ) (m : List ℕ) → drop i l ≡ t ∷ m → (i < length l) × (get_or l i 0 ≡ t) × (drop (suc i) l ≡ m)
+drop_parts zero [] t m e = absurd (let z : ◌≡◌ {A = ℕ} 0 1 = cc in omega arith)
+drop_parts (suc i) [] t m e = absurd (let z : ◌≡◌ {A = ℕ} 0 1 = cc in omega arith)
+drop_parts zero (x ∷ l) t m e = (zero-lt-suc (length l), cc, cc)
+drop_parts (suc i) (x ∷ l) t m e = let r = drop_parts i l t m e in (suc-le-suc r.0, r.1, r.2)
+
+drop_none : (i : ℕ) (l : List ℕ) → drop i l ≡ [] → length l ≤ i
+drop_none i [] e = zero-le
+drop_none zero (x ∷ l) e = absurd (let z : ◌≡◌ {A = ℕ} 0 1 = cc in omega arith)
+drop_none (suc i) (x ∷ l) e = suc-le-suc (drop_none i l e)
+
+pub nth_turn : {w s t r : ℕ} (all i : ℕ) → Turn w s t r → drop i (members w all) ≡ members w s
+    → (i < size w all) × (get_or (members w all) i 0 ≡ t) × (drop (i + 1) (members w all) ≡ members w r)
+unfolding size
+nth_turn {w} {s} {t} {r} all i u e =
+    let p = drop_parts i (members w all) t (members w r) (e ∙ members-turn u) in
+    (p.0, p.1, ap (λ (k : ℕ). drop k (members w all)) (add-one i) ∙ p.2)
+
+pub nth_done : (w all s i : ℕ) → s ≡ 0 → drop i (members w all) ≡ members w s → size w all ≤ i
+unfolding size
+nth_done w all s i z e = drop_none i (members w all) (e ∙ ap (members w) z ∙ members_none w)

@@ -1,10 +1,11 @@
 -- Tests on the numbers below n and on the members of a set as equations, and the union of sets over the members of a set. Assumes nothing.
 use mathlib.Core.Path.{◌≡◌, refl, sym, ap, ap₂, ◌∙◌, subst}
-use mathlib.Core.Bool.{Bool, true, false, not, ◌&&◌, ◌||◌, or_assoc, or-false, or-true}
+use mathlib.Core.Bool.{Bool, true, false, not, ◌&&◌, ◌||◌, or_assoc, or-false, or-true, and-false}
 use mathlib.Core.Logic.{◌⊎◌, inl, inr, ⊎_elim}
 use mathlib.Core.List.{List}
 use Prim.Native.Nat.{ℕ, zero, suc, ◌+◌, ◌*◌, ◌/◌, ◌%◌, ◌^◌, ◌<◌}
 use native.Mathlib.Nat.{pos_of_ne-zero, eq-zero-or-pos, le_refl, le_step, lt_of_le_of_lt, add-zero, add-suc, suc-add, zero-add, not-suc-le-zero, mul-zero, mod-lt, div-add-mod', div-lt_iff_lt-mul}
+use native.Mathlib.Decide.{ℕ_discrete}
 use native.Mathlib.Omega.{arith}
 use lib.Arith.{digits_lt}
 use lib.Dec.{T, T_not, not_T, eqb, eqb→eq, eqb_refl}
@@ -14,7 +15,7 @@ use Rattle.sets.specs.Sets.{has, union, meet, minus, single, meets, set_of, some
 use Rattle.sets.proofs.Tests.{is_true, is_false, of_true, of_false, and_l, and_r, and_i, bool_ext}
 use Rattle.sets.proofs.Membership.{ext, lt-two-pow, has_none, has_meet, has-union, has-single, has-minus, has-set_of, set_of-lt, single-lt, meet-le, minus-le}
 use Rattle.sets.proofs.Facts.{union_e, union_l, set_of_i, some_e, some_i, some_in_e, some_in_i, every_e, every_i, every_in_e, every_in_i, below_i}
-use Rattle.sets.proofs.Members.{Lowest, fold, lowest_member, empty, members_lowest, members_none, minus_member}
+use Rattle.sets.proofs.Members.{Turn, Lowest, fold, lowest_member, empty, without_other, members_lowest, members_none, minus_member}
 
 -- ---- some number below n has p
 
@@ -196,6 +197,23 @@ minus_every w a b h = bool_ext (eqb (minus a b) 0) (every_in w a (has b)) forth 
         (empty w (lt_of_le_of_lt (minus-le a b) h) (λ i l. has-minus a b i ∙ is_false (has a i && not (has b i)) (outside e i l))))
 
 -- ---- a loop over the members that looks for one with p: it is at hand, or the set without a member that has no p says the same
+
+pub some_in-turn : {w s t r : ℕ} (p : ℕ → Bool) → Turn w s t r → p t ≡ false → some_in w r p ≡ some_in w s p
+unfolding some_in
+some_in-turn {w} {s} {t} {r} p u e = some_same w (λ i. has r i && p i) (λ i. has s i && p i) (λ i l. at i (ℕ_discrete i t))
+  where
+    at : (i : ℕ) → Dec (i ≡ t) → (has r i && p i) ≡ (has s i && p i)
+    at i (yes q) =
+        ap (λ (x : Bool). has r i && x) (ap p q ∙ e) ∙ and-false (has r i)
+        ∙ sym (ap (λ (x : Bool). has s i && x) (ap p q ∙ e) ∙ and-false (has s i))
+    at i (no q) = ap (λ (x : Bool). x && p i) (ap (λ (x : ℕ). has x i) u.removed ∙ without_other s t i q)
+
+pub some_in_found : {w s t r : ℕ} (p : ℕ → Bool) → Turn w s t r → p t ≡ true → some_in w s p ≡ true
+some_in_found {w} {s} {t} p u e = is_true (some_in w s p) (some_in_i w s p t u.lowest.small (of_true u.lowest.member) (of_true e))
+
+pub some_in_none : (w s : ℕ) (p : ℕ → Bool) → s ≡ 0 → some_in w s p ≡ false
+unfolding some_in
+some_in_none w s p e = some-false w (λ i. has s i && p i) (λ i l. ap (λ (x : Bool). x && p i) (ap (λ (x : ℕ). has x i) e ∙ has_none i))
 
 -- ---- the union of g t over the members t of s
 

@@ -2,7 +2,7 @@
 use mathlib.Core.Path.{◌≡◌, refl, sym, ap, ap₂, ◌∙◌, subst}
 use mathlib.Core.Bool.{Bool, true, false, not, ◌&&◌, ◌||◌, and-true, and-false, or-false, or-true}
 use Prim.Native.Nat.{ℕ, zero, suc, ◌+◌, ◌-◌, ◌*◌, ◌^◌, ◌≤◌, ◌<◌, zero-le, suc-le-suc}
-use native.Mathlib.Nat.{not-suc-le-zero, le_of_suc-le-suc, le_refl, lt_of_le_of_lt, add-zero, sub-zero, sub_self, one-mul, zero-mul}
+use native.Mathlib.Nat.{not-suc-le-zero, le_of_suc-le-suc, le_refl, lt_of_le_of_lt, add-zero, sub-zero, zero-add, sub_self, one-mul, zero-mul}
 use native.Mathlib.Decide.{ℕ_discrete}
 use native.Mathlib.Omega.{arith}
 use lib.Bits.{or_zero_r}
@@ -177,3 +177,7 @@ below_rank (suc d) (suc n) k s l e =
         × (get_or (prepend b k (members_from (suc k) n s)) (length (prepend b k (members_from (suc k) d s))) 0 ≡ k + suc d)
     at true p q = (suc-le-suc p, q)
     at false p q = (p, q)
+
+pub member_nth : (w s t : ℕ) → t < w → has s t ≡ true → (size t s < size w s) × (get_or (members w s) (size t s) 0 ≡ t)
+unfolding size members
+member_nth w s t l e = let r = below_rank t w 0 s l (ap (has s) (zero-add t) ∙ e) in (r.0, r.1 ∙ zero-add t)

@@ -2,15 +2,16 @@
 -- A table of sound layout is such a table (`shape_of`). Assumes nothing.
 use mathlib.Core.Path.{◌≡◌, subst}
 use mathlib.Core.Logic.{◌⊎◌, inl, inr}
-use mathlib.Core.Bool.{◌&&◌}
+use mathlib.Core.Bool.{not, ◌&&◌}
 use mathlib.Core.List.{List}
 use Prim.Native.Nat.{ℕ, ◌+◌, ◌*◌, ◌≤◌, ◌<◌}
-use native.Mathlib.Nat.{mod-lt}
+use native.Mathlib.Nat.{mod-lt, pos_of_ne-zero}
 use native.Mathlib.Omega.{arith}
-use lib.Dec.{T, eqb, ltb, eqb→eq, ltb→lt, lit<}
+use lib.Dec.{T, T_not, eqb, ltb, eqb→eq, ltb→lt, lit<}
 use lib.ListN.{length}
+use borrow.Author.Tests.{eq-eqb, ne_eqb}
 use Rattle.sets.specs.Sets.{has, size, every}
-use Rattle.sets.proofs.Tests.{and_l, and_r, or_e}
+use Rattle.sets.proofs.Tests.{of_true, and_l, and_r, or_e}
 use Rattle.sets.proofs.Facts.{every_e, every_in_e}
 use Rattle.meaning.specs.Table.{word_in, k_in, t_in, b_in, source_in, delay_in, offset_in, length_in, mask_in, timers_in, cells_in, timer_ok, table_ok}
 use Rattle.table.specs.Parts.{table_head_ok, table_pairs_ok, preamble_ok, block_head_ok, shape_ok, nexts_ok}
@@ -88,6 +89,11 @@ module _ (w : List ℕ) (h : T (shape_ok w)) where
   module _ (b : ℕ) (l : b < b_in w) where
     block : BlockHead w b
     block = block_head_of w b (block_head_sound b l)
+
+    pub mask_pos : 0 < b → 0 < mask_in w b
+    mask_pos p =
+        let other : T (not (eqb (mask_in w b) 0)) = rw (ne_eqb b 0 (λ e. omega arith)) at block.mask in
+        pos_of_ne-zero (λ e. T_not (eqb (mask_in w b) 0) other (of_true (eq-eqb (mask_in w b) 0 e)))
 
     pub timers_few : size 64 (timers_in w b) ≤ 6
     timers_few = block.few
