@@ -5,15 +5,15 @@ use meaning::refusal::{Refusal, number};
 use run::state::State;
 use std::marker::Model;
 
-// A line of a word and numbers; one that is begun has to be written. It holds 8,192 bytes, and every caller is proved to stay below
-// that.
-pub struct Line {
-    bytes: [u8; 8192],
+// A line of a word and numbers, in bytes that its caller lends; one that is begun has to be written. It holds 8,192 bytes, and
+// every caller is proved to stay below that.
+pub struct Line<'a> {
+    bytes: &'a mut [u8; 8192],
     end: usize,
 }
 
 // Clauses see how many bytes it has.
-impl Model for Line {
+impl<'a> Model for Line<'a> {
     ghost use Rattle.std.specs.Prelude.{ℕ, ◌≤◌};
 
     ghost Value = { ℕ };
@@ -23,13 +23,12 @@ impl Model for Line {
     ghost invariant = { λ l. l.end ≤ 8192 };
 }
 
-impl Line {
-    // A line starts with a word.
-    pub fn start(word: &[u8]) -> Self
+impl<'a> Line<'a> {
+    // A line starts with a word. Its caller makes the bytes before all else: below a loop they would be cleared twice.
+    pub fn start(bytes: &'a mut [u8; 8192], word: &[u8]) -> Line<'a>
         requires { length word.now ≤ 64 }
         ensures { result ≤ 64 }
     {
-        let mut bytes = [0; 8192];
         bytes[..word.len()].copy_from_slice(word);
         Line {
             bytes,
@@ -44,9 +43,10 @@ impl Line {
     {
         let mut digits = [0; 20];
         let count = io::decimal(n.into(), &mut digits);
-        self.bytes[self.end] = b' ';
+        let bytes = &mut *self.bytes;
+        bytes[self.end] = b' ';
         self.end += 1;
-        self.bytes[self.end..self.end + count].copy_from_slice(&digits[..count]);
+        bytes[self.end..self.end + count].copy_from_slice(&digits[..count]);
         self.end += count;
     }
 
@@ -88,7 +88,7 @@ impl Line {
     pub fn write(self)
         requires { self < 8192 }
     {
-        let Line { mut bytes, end } = self;
+        let Line { bytes, end } = self;
         bytes[end] = b'\n';
         io::write_all(1, &bytes[..end + 1]);
     }

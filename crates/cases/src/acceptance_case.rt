@@ -4,7 +4,8 @@ use case_text::line::Line;
 
 // Case 14: the current table against the current sheet.
 pub fn accept_table(sheet: &[u32], table: &[u32]) {
-    let mut line = Line::start(b"foreign");
+    let mut bytes = [0; 8192];
+    let mut line = Line::start(&mut bytes, b"foreign");
     line.put_refusal(accept(sheet, table).err());
     line.write();
 }

@@ -19,12 +19,13 @@ pub fn alternatives(text: &mut Text, sheet: &[u32]) {
     let mut inputs = [0; 64];
     let mut out = [u32::MAX; 400];
     let mut numbers = [u8::MAX; 4160];
+    let mut bytes = [0; 8192];
     let asked = text.run(&mut inputs, out.len());
     let lent = text.count(numbers.len());
     let out = &mut out[..asked.outputs];
     let numbers = &mut numbers[..lent];
     let ran = run(sheet, asked.state, &inputs[..asked.inputs], out, numbers);
-    let mut line = Line::start(b"alternatives");
+    let mut line = Line::start(&mut bytes, b"alternatives");
     put_counts(&mut line, &ran);
     line.put(digest(out));
     line.put(numbers.iter().map(|n| word_of(*n)).fold(0, with_word));

@@ -19,6 +19,7 @@ pub fn compile(text: &mut Text, sheet: &[u32], table: &mut [u32]) -> Built
     ensures length { result.length ≤ result.lent }
 {
     let mut work = [u32::MAX; 4096];
+    let mut bytes = [0; 8192];
     let lent = text.count(table.len());
     let places = text.count(work.len());
     let table = &mut table[..lent];
@@ -26,7 +27,7 @@ pub fn compile(text: &mut Text, sheet: &[u32], table: &mut [u32]) -> Built
     table.fill(u32::MAX);
     let compiled = compiler::compile(sheet, table, work);
     let length = compiled.table_length.unwrap_or(0);
-    let mut line = Line::start(b"compile");
+    let mut line = Line::start(&mut bytes, b"compile");
     line.put_refusal(compiled.table_length.err());
     line.put(compiled.f as u64);
     line.put(length as u64);

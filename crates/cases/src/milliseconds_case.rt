@@ -8,11 +8,12 @@ use milliseconds::in_ticks;
 pub fn convert(text: &mut Text) {
     let mut delays = [0; 64];
     let mut results = [u32::MAX; 200];
+    let mut bytes = [0; 8192];
     let tick = text.number();
     let count = text.words(&mut delays);
     let lent = text.count(results.len());
     let results = &mut results[..lent];
-    let mut line = Line::start(b"milliseconds");
+    let mut line = Line::start(&mut bytes, b"milliseconds");
     line.put_refusal(in_ticks(tick, &delays[..count], results).err());
     line.put(digest(results));
     line.write();

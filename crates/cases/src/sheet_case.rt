@@ -11,8 +11,9 @@ use simulator::sheet_run::{Ran, run};
 pub fn check(text: &mut Text, sheet: &mut [u32]) -> usize
     ensures { result ≤ length sheet.old }
 {
+    let mut bytes = [0; 8192];
     let words = text.words(sheet);
-    let mut line = Line::start(b"check");
+    let mut line = Line::start(&mut bytes, b"check");
     line.put_refusal(sheet::check(&sheet[..words]).err());
     line.write();
     words
@@ -39,6 +40,7 @@ pub fn sheet_run(text: &mut Text, sheet: &[u32]) {
     let mut inputs = [0; 64];
     let mut out = [u32::MAX; 400];
     let mut numbers = [0; 4096];
+    let mut bytes = [0; 8192];
     let asked = text.run(&mut inputs, out.len());
     let out = &mut out[..asked.outputs];
     let ran = run(
@@ -48,7 +50,7 @@ pub fn sheet_run(text: &mut Text, sheet: &[u32]) {
         out,
         &mut numbers,
     );
-    let mut line = Line::start(b"sheet");
+    let mut line = Line::start(&mut bytes, b"sheet");
     put_counts(&mut line, &ran);
     line.put(digest(out));
     line.put_state(&ran.state);

@@ -8,10 +8,11 @@ use recorder::table_run::run;
 pub fn table_run(text: &mut Text, table: &[u32]) {
     let mut inputs = [0; 64];
     let mut out = [u32::MAX; 400];
+    let mut bytes = [0; 8192];
     let asked = text.run(&mut inputs, out.len());
     let out = &mut out[..asked.outputs];
     let ran = run(table, asked.state, &inputs[..asked.inputs], out);
-    let mut line = Line::start(b"table");
+    let mut line = Line::start(&mut bytes, b"table");
     line.put_refusal(ran.refusal);
     line.put(ran.done.0 as u64);
     line.put(digest(out));

@@ -38,10 +38,11 @@ fn put_report(line: &mut Line, why: Result<Why, Refusal>)
 
 // Case 11: why a transition of the current sheet stayed put in the tick from a state on an input set.
 pub fn why(text: &mut Text, sheet: &[u32]) {
+    let mut bytes = [0; 8192];
     let state = text.state();
     let set = text.number();
     let transition = text.number();
-    let mut line = Line::start(b"why");
+    let mut line = Line::start(&mut bytes, b"why");
     put_report(
         &mut line,
         simulator::why::why(sheet, state, set, transition),

@@ -23,8 +23,9 @@ fn modes_of(sheet: &[u32]) -> usize
 
 // Case 13: the refusal of the current sheet; if there is none, a mask for each mode.
 pub fn masks(sheet: &[u32]) {
+    let mut bytes = [0; 8192];
     let given = masks_of(sheet);
-    let mut line = Line::start(b"within");
+    let mut line = Line::start(&mut bytes, b"within");
     line.put_refusal(given.err());
     if let Ok(masks) = given {
         put_masks(&mut line, &masks[..modes_of(sheet)]);

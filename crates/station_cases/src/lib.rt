@@ -95,6 +95,7 @@ pub fn serve_stations(text: &mut Text, table: &[u32]) {
     let mut inputs = [0; 400];
     let mut out = [u32::MAX; 2000];
     let mut list = [empty(); 65];
+    let mut bytes = [0; 8192];
     let allowance = text.number();
     let sets = text.words(&mut inputs);
     let words = text.count(out.len());
@@ -103,7 +104,7 @@ pub fn serve_stations(text: &mut Text, table: &[u32]) {
     let inputs = &inputs[..sets];
     let out = &mut out[..words];
     let served = serve_listed(&mut list, count, table, inputs, out, u64::from(allowance));
-    let mut line = Line::start(b"stations");
+    let mut line = Line::start(&mut bytes, b"stations");
     line.put_refusal(served.refusal);
     line.put(served.spent);
     line.put(digest(out));
