@@ -1,7 +1,8 @@
 // The current sheet and the current table, and the answer of a case on them.
-ghost use Rattle.std.specs.Prelude.{◌≡◌, []};
+ghost use Rattle.std.specs.Prelude.{◌≡◌, ◌≤◌, []};
+ghost use Rattle.conform.specs.declared.case.Question.{Question};
 
-use super::case::Case;
+use super::case::{Case, Change, Question};
 use case_text::text::Text;
 use cases::{
     acceptance_case, alternatives_case, compile_case, milliseconds_case, sheet_case, table_case,
@@ -20,13 +21,13 @@ pub struct Current {
     table_length: usize,
 }
 
-// Clauses see the current sheet and the current table.
+// Clauses see the current sheet, the current table and how many words are lent.
 impl Model for Current {
     ghost use Rattle.std.specs.Prelude.{ℕ, List, take, ◌≤◌};
 
-    ghost Value = { List ℕ × List ℕ };
+    ghost Value = { List ℕ × List ℕ × ℕ };
 
-    ghost view = { λ c. (take c.sheet_length c.sheet, take c.table_length c.table) };
+    ghost view = { λ c. (take c.sheet_length c.sheet, take c.table_length c.table, c.lent) };
 
     ghost invariant = { λ c. (c.sheet_length ≤ 4096) × (c.lent ≤ 65536) × (c.table_length ≤ c.lent) };
 }
@@ -34,7 +35,7 @@ impl Model for Current {
 impl Current {
     // No sheet and no table yet.
     pub fn new() -> Self
-        ensures { result ≡ ([], []) }
+        ensures { result ≡ ([], [], 0) }
     {
         Current {
             sheet: [0; 4096],
@@ -57,30 +58,50 @@ impl Current {
         &self.table[..self.table_length]
     }
 
-    // Reads what a case has after its number and answers it.
-    pub fn answer(&mut self, text: &mut Text, case: Case) {
+    // Reads what a case has after its number and answers it. Only case 1 changes the current sheet; a question changes nothing.
+    pub fn answer(&mut self, text: &mut Text, case: Case)
+        ensures sheet { ¬ (case ≡ Case.Check) → self.new.0 ≡ self.old.0 }
+        ensures question { (question : Question) → case ≡ Case.Ask question → self.new ≡ self.old }
+    {
         match case {
             Case::Check => self.sheet_length = sheet_case::check(text, &mut self.sheet),
-            Case::SheetRun => sheet_case::sheet_run(text, self.sheet()),
             Case::Compile => {
                 let sheet = &self.sheet[..self.sheet_length];
                 let built = compile_case::compile(text, sheet, &mut self.table);
                 self.lent = built.lent;
                 self.table_length = built.length;
             }
-            Case::TableRun => table_case::table_run(text, self.table()),
-            Case::WriteWord => table_case::write_word(text, &mut self.table[..self.lent]),
-            Case::Length => self.table_length = text.count(self.lent),
-            Case::Why => why_case::why(text, self.sheet()),
-            Case::Within => within_case::masks(self.sheet()),
-            Case::Accept => acceptance_case::accept_table(self.sheet(), self.table()),
-            Case::Alternatives => alternatives_case::alternatives(text, self.sheet()),
-            Case::Stations => station_cases::serve_stations(text, self.table()),
-            Case::Milliseconds => milliseconds_case::convert(text),
-            Case::Table => {
+            Case::Change(change) => self.change_table(text, change),
+            Case::Ask(question) => self.answer_only(text, question),
+        }
+    }
+
+    // A change of the current table; only for another table may more words be lent.
+    fn change_table(&mut self, text: &mut Text, change: Change)
+        ensures sheet { self.new.0 ≡ self.old.0 }
+        ensures lent { ¬ (change ≡ Change.Table) → self.new.2 ≤ self.old.2 }
+    {
+        match change {
+            Change::WriteWord => table_case::write_word(text, &mut self.table[..self.lent]),
+            Change::Length => self.table_length = text.count(self.lent),
+            Change::Table => {
                 self.lent = text.words(&mut self.table);
                 self.table_length = self.lent;
             }
+        }
+    }
+
+    // The answer of a question.
+    fn answer_only(&self, text: &mut Text, question: Question) {
+        match question {
+            Question::SheetRun => sheet_case::sheet_run(text, self.sheet()),
+            Question::TableRun => table_case::table_run(text, self.table()),
+            Question::Why => why_case::why(text, self.sheet()),
+            Question::Within => within_case::masks(self.sheet()),
+            Question::Accept => acceptance_case::accept_table(self.sheet(), self.table()),
+            Question::Alternatives => alternatives_case::alternatives(text, self.sheet()),
+            Question::Stations => station_cases::serve_stations(text, self.table()),
+            Question::Milliseconds => milliseconds_case::convert(text),
         }
     }
 }
