@@ -5,7 +5,7 @@ use case_text::line::Line;
 // Case 14: the current table against the current sheet.
 pub fn accept_table(sheet: &[u32], table: &[u32]) {
     let mut bytes = [0; 8192];
-    let mut line = Line::start(&mut bytes, b"foreign");
+    let mut line = Line::start_in(&mut bytes, b"foreign");
     line.put_refusal(accept(sheet, table).err());
     line.write();
 }

@@ -25,7 +25,7 @@ pub fn alternatives(text: &mut Text, sheet: &[u32]) {
     let out = &mut out[..asked.outputs];
     let numbers = &mut numbers[..lent];
     let ran = run(sheet, asked.state, &inputs[..asked.inputs], out, numbers);
-    let mut line = Line::start(&mut bytes, b"alternatives");
+    let mut line = Line::start_in(&mut bytes, b"alternatives");
     put_counts(&mut line, &ran);
     line.put(digest(out));
     line.put(numbers.iter().map(|n| word_of(*n)).fold(0, with_word));

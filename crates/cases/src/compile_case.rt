@@ -27,7 +27,7 @@ pub fn compile(text: &mut Text, sheet: &[u32], table: &mut [u32]) -> Built
     table.fill(u32::MAX);
     let compiled = compiler::compile(sheet, table, work);
     let length = compiled.table_length.unwrap_or(0);
-    let mut line = Line::start(&mut bytes, b"compile");
+    let mut line = Line::start_in(&mut bytes, b"compile");
     line.put_refusal(compiled.table_length.err());
     line.put(compiled.f as u64);
     line.put(length as u64);

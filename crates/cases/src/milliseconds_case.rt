@@ -13,7 +13,7 @@ pub fn convert(text: &mut Text) {
     let count = text.words(&mut delays);
     let lent = text.count(results.len());
     let results = &mut results[..lent];
-    let mut line = Line::start(&mut bytes, b"milliseconds");
+    let mut line = Line::start_in(&mut bytes, b"milliseconds");
     line.put_refusal(in_ticks(tick, &delays[..count], results).err());
     line.put(digest(results));
     line.write();

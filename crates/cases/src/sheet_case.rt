@@ -2,7 +2,7 @@
 ghost use Rattle.std.specs.Prelude.{◌+◌, ◌≤◌, length};
 
 use case_text::digests::digest;
-use case_text::line::Line;
+use case_text::line::{Bytes, Line};
 use case_text::text::Text;
 use run::counts::Rounds;
 use simulator::sheet_run::{Ran, run};
@@ -13,7 +13,7 @@ pub fn check(text: &mut Text, sheet: &mut [u32]) -> usize
 {
     let mut bytes = [0; 8192];
     let words = text.words(sheet);
-    let mut line = Line::start(&mut bytes, b"check");
+    let mut line = Line::start_in(&mut bytes, b"check");
     line.put_refusal(sheet::check(&sheet[..words]).err());
     line.write();
     words
@@ -26,7 +26,7 @@ fn total(rounds: Rounds) -> u64 {
 }
 
 // The refusal of a sheet run, its ticks done and its rounds.
-pub fn put_counts(line: &mut Line, ran: &Ran)
+pub fn put_counts<B: Bytes>(line: &mut Line<B>, ran: &Ran)
     requires { line.old ≤ 64 }
     ensures { line.new ≤ line.old + 63 }
 {
@@ -50,9 +50,29 @@ pub fn sheet_run(text: &mut Text, sheet: &[u32]) {
         out,
         &mut numbers,
     );
-    let mut line = Line::start(&mut bytes, b"sheet");
+    let mut line = Line::start_in(&mut bytes, b"sheet");
     put_counts(&mut line, &ran);
     line.put(digest(out));
     line.put_state(&ran.state);
     line.write();
+}
+
+#[cfg(test)]
+mod tests {
+    use super::*;
+    use run::state::fresh;
+
+    // The counts in a line that has bytes of its own and is handed on.
+    fn counts(ran: &Ran) -> Line
+        ensures { result ≤ 127 }
+    {
+        let mut line = Line::start(b"sheet");
+        put_counts(&mut line, ran);
+        line
+    }
+
+    #[test]
+    fn counts_of_a_refused_run() {
+        counts(&run(&[], fresh(), &[], &mut [], &mut [])).write();
+    }
 }

@@ -12,7 +12,7 @@ pub fn table_run(text: &mut Text, table: &[u32]) {
     let asked = text.run(&mut inputs, out.len());
     let out = &mut out[..asked.outputs];
     let ran = run(table, asked.state, &inputs[..asked.inputs], out);
-    let mut line = Line::start(&mut bytes, b"table");
+    let mut line = Line::start_in(&mut bytes, b"table");
     line.put_refusal(ran.refusal);
     line.put(ran.done.0 as u64);
     line.put(digest(out));

@@ -1,13 +1,13 @@
 // The case of why a transition stayed put: what it reads after its number, the call that it makes and the line that it writes.
 ghost use Rattle.std.specs.Prelude.{◌+◌, ◌≤◌};
 
-use case_text::line::Line;
+use case_text::line::{LentLine, Line};
 use case_text::text::Text;
 use meaning::refusal::Refusal;
 use reaction::why::Why;
 
 // No refusal, and the number of a reason.
-fn put_reason(line: &mut Line, reason: u32)
+fn put_reason(line: &mut LentLine, reason: u32)
     requires { line.old ≤ 64 }
     ensures { line.new ≤ line.old + 42 }
 {
@@ -16,7 +16,7 @@ fn put_reason(line: &mut Line, reason: u32)
 }
 
 // What is reported, or the refusal.
-fn put_report(line: &mut Line, why: Result<Why, Refusal>)
+fn put_report(line: &mut LentLine, why: Result<Why, Refusal>)
     requires { line.old ≤ 64 }
     ensures { line.new ≤ line.old + 84 }
 {
@@ -42,7 +42,7 @@ pub fn why(text: &mut Text, sheet: &[u32]) {
     let state = text.state();
     let set = text.number();
     let transition = text.number();
-    let mut line = Line::start(&mut bytes, b"why");
+    let mut line = Line::start_in(&mut bytes, b"why");
     put_report(
         &mut line,
         simulator::why::why(sheet, state, set, transition),

@@ -6,7 +6,7 @@ ghost use Rattle.meaning.specs.Stations.{serve_stations};
 ghost use Rattle.stations.specs.Stations.{stations_of, call_of};
 
 use case_text::digests::{digest, with_word};
-use case_text::line::Line;
+use case_text::line::{LentLine, Line};
 use case_text::text::Text;
 use run::state::{State, fresh};
 use stations::{Served, Station, serve};
@@ -54,7 +54,7 @@ fn digest_state(state: &State) -> u32 {
 }
 
 // A station: its position, its mark and the digest of its state.
-fn put_station(line: &mut Line, station: &Station)
+fn put_station(line: &mut LentLine, station: &Station)
     requires { line.old + 63 ≤ 8192 }
     ensures { line.new ≤ line.old + 63 }
 {
@@ -64,7 +64,7 @@ fn put_station(line: &mut Line, station: &Station)
 }
 
 // The stations of a list.
-fn put_stations(line: &mut Line, list: &[Station])
+fn put_stations(line: &mut LentLine, list: &[Station])
     requires { line.old + 63 * length list.now ≤ 8192 }
     ensures { line.new ≤ line.old + 63 * length list.now }
 {
@@ -104,7 +104,7 @@ pub fn serve_stations(text: &mut Text, table: &[u32]) {
     let inputs = &inputs[..sets];
     let out = &mut out[..words];
     let served = serve_listed(&mut list, count, table, inputs, out, u64::from(allowance));
-    let mut line = Line::start(&mut bytes, b"stations");
+    let mut line = Line::start_in(&mut bytes, b"stations");
     line.put_refusal(served.refusal);
     line.put(served.spent);
     line.put(digest(out));

@@ -3,7 +3,7 @@ use Rattle.std.proofs.Common.{◌+◌, ◌*◌, ◌≤◌}
 use Rattle.case_text.proofs.line.Line.put_state.Given as goal
 
 abbrev pub invariant-loop-t : goal.invariant-loop-t
-invariant-loop-t l = l.self ≤ l.fn.self + 21 + 42 * l.t
+invariant-loop-t g l = l.self ≤ l.fn.self + 21 + 42 * l.t
 
 abbrev pub invariant-loop-m : goal.invariant-loop-m
-invariant-loop-m l = l.self ≤ l.fn.self + 21 + 42 * 64 + 42 * l.m
+invariant-loop-m g l = l.self ≤ l.fn.self + 21 + 42 * 64 + 42 * l.m
