@@ -5,7 +5,7 @@ use meaning::refusal::{Refusal, number};
 use run::state::State;
 use std::marker::Model;
 
-// Where the bytes of a line are: in the line itself, or where its caller lends them.
+// Where the bytes of a line are: in the line itself, or where its caller lends them. A line that is written lets them go.
 pub trait Bytes: Drop {
     ghost held: { Self → List ℕ };
 
@@ -31,7 +31,7 @@ impl Bytes for &mut [u8; 8192] {
 }
 
 // A line of a word and numbers; one that is begun has to be written. It holds 8,192 bytes, and every caller is proved to stay below
-// that. `Line` alone has its bytes in itself.
+// that. `Line` with no type argument has its bytes in itself.
 pub struct Line<B = [u8; 8192]> {
     bytes: B,
     end: usize,
@@ -52,7 +52,7 @@ impl<B> Model for Line<B> {
 }
 
 impl Line {
-    // A line starts with a word. The line is copied where it is handed on; where that counts, its bytes are lent (`start_in`).
+    // A line starts with a word. Where handing it on must not copy its bytes, they are lent (`start_in`).
     pub fn start(word: &[u8]) -> Self
         requires { length word.now ≤ 64 }
         ensures { result ≤ 64 }
@@ -64,7 +64,7 @@ impl Line {
 }
 
 impl<'a> LentLine<'a> {
-    // A line in lent bytes starts with a word. Its caller makes the bytes before all else: below a loop they would be cleared twice.
+    // The same in lent bytes. Their caller makes them before all else: below a loop they would be cleared twice.
     pub fn start_in(bytes: &'a mut [u8; 8192], word: &[u8]) -> LentLine<'a>
         requires { length word.now ≤ 64 }
         ensures { result ≤ 64 }
